@@ -1,0 +1,4 @@
+pub mod Clamping
+pub mod Judging
+pub mod Mixing
+pub mod Writing

@@ -1,0 +1,5 @@
+pub mod Every
+pub mod Flat
+pub mod Inside
+pub mod Laying
+pub mod Ranges

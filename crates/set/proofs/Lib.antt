@@ -1,0 +1,7 @@
+pub mod Appending
+pub mod Between
+pub mod Calling
+pub mod Growing
+pub mod Loading
+pub mod Reading
+pub mod Rooming

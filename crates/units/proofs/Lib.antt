@@ -1,0 +1,3 @@
+pub mod Nans
+pub mod RoundNearest
+pub mod RootNearest

@@ -1,0 +1,13 @@
+// The units that a function asks while it works: so far the arithmetic unit.
+mod arithmetic;
+mod house;
+mod question;
+
+pub use arithmetic::Arithmetic;
+pub use house::House;
+pub use house::HouseArithmetic;
+pub use house::power;
+pub use house::root;
+pub use question::Question;
+pub use question::QuestionEq;
+pub use question::QuestionPartialEq;

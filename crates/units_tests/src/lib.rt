@@ -1,0 +1,5 @@
+// The units at the edges of their rules.
+#[cfg(test)]
+mod house;
+#[cfg(test)]
+mod question;
