@@ -1,0 +1,7 @@
+mod Cuts
+mod Listing
+mod Loading
+mod Naming
+mod Nibbles
+mod Pairing
+mod Silence

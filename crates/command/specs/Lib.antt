@@ -1,0 +1,6 @@
+pub mod Cutting
+pub mod Fields
+pub mod Left
+pub mod Lines
+pub mod Loads
+pub mod Numbers
