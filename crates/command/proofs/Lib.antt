@@ -2,6 +2,5 @@ mod Cuts
 mod Listing
 mod Loading
 mod Naming
-mod Nibbles
 mod Pairing
 mod Silence

@@ -6,7 +6,7 @@ use lib.Ieee.{Float}
 use Rattle.std.specs.declared.option.Option.the-variants.{None, Some}
 use Rattle.command.specs.Cutting.{fieldWord, followed}
 use Rattle.command.specs.Fields.{Numbers, no-number, number}
-use Rattle.command.specs.Numbers.{ReadsNumber}
+use Rattle.numerals.specs.Numbers.{ReadsNumber}
 
 -- the numbers from s on stand after those so far, which were read from the start
 pub record Keeps (start s : List ℕ) (old : List Float) : Type 0 where

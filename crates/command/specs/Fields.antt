@@ -7,7 +7,7 @@ use lib.ListN.{length}
 use Rattle.std.specs.declared.option.Option.{Option}
 use Rattle.std.specs.declared.option.Option.the-variants.{None, Some}
 use Rattle.command.specs.Cutting.{afterWord, fieldWord}
-use Rattle.command.specs.Numbers.{ReadsNumber, Whole}
+use Rattle.numerals.specs.Numbers.{ReadsNumber, Whole}
 
 -- the next word of the field is w
 abbrev pub Next : List ℕ → List ℕ → List ℕ → Type 0

@@ -3,4 +3,3 @@ pub mod Fields
 pub mod Left
 pub mod Lines
 pub mod Loads
-pub mod Numbers

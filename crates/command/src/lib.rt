@@ -1,4 +1,4 @@
-// One line of a job file read into a command, and numbers written for the record.
+// One line of a job file read into a command.
 mod exponential;
 mod line;
 mod lists;
@@ -18,5 +18,3 @@ pub use misread::Misread;
 pub use misread::MisreadDebug;
 pub use misread::MisreadEq;
 pub use misread::MisreadPartialEq;
-pub use number::bits_text;
-pub use number::number_text;

@@ -14,7 +14,7 @@ ghost use Rattle.std.specs.Vec.{made};
 ghost use Rattle.std.specs.declared.option.Option.the-variants.{None, Some};
 ghost use Rattle.command.specs.Fields.{Next, OneNumber, OneWhole, Numbers, Pairs, Alone, paired};
 ghost use Rattle.command.specs.Left.{text, left};
-ghost use Rattle.command.specs.Numbers.{ReadsNumber};
+ghost use Rattle.numerals.specs.Numbers.{ReadsNumber};
 
 // The next word of the field, which has to be there.
 fn needed<'a>(words: &mut Words<'a>) -> Result<&'a str, LineError<'a>>
@@ -31,7 +31,7 @@ fn needed<'a>(words: &mut Words<'a>) -> Result<&'a str, LineError<'a>>
 fn float<'a>(word: &'a str) -> Result<f32, LineError<'a>>
     ensures { λ r. ⌜ made r (λ x. ReadsNumber (now (word .entry)) (Some x)) ⌝ }
 {
-    match number::float(word) {
+    match numerals::float(word) {
         Some(x) => Ok(x),
         None => Err(LineError::new(Misread::NotANumber, word)),
     }

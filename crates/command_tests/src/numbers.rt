@@ -1,8 +1,8 @@
 // Numbers read and written.
 use command::Command;
-use command::bits_text;
-use command::number_text;
 use command::read_line;
+use numerals::bits_text;
+use numerals::number_text;
 use std::alloc::Global;
 use std::num::f32_from_bits_with_nan;
 use std::test::*;

@@ -113,7 +113,7 @@ impl Cause {
             Cause::Part => "a part is not loaded or not of one input",
             Cause::Bounds => "the Bounds fall or leave the Domain",
             Cause::Depth => "the stitched functions are nested too deep",
-            Cause::UnknownWord => "an unknown word or a stray delimiter",
+            Cause::UnknownWord => "a word is unknown or a delimiter stray",
             Cause::TooManyDigits => "a number has too many digits",
             Cause::Brace => "a brace is missing",
             Cause::Procedure => "a procedure is missing, a third one or left over",
@@ -124,18 +124,20 @@ impl Cause {
             Cause::OutputList => "the output list is too short",
             Cause::NoSample => "a sample is missing",
             Cause::Operands => "too few operands or a count too great",
-            Cause::FullStack => "a literal on a full stack",
-            Cause::Quotient => "a quotient that does not exist",
-            Cause::Shift => "a shift beyond 31 places",
-            Cause::VetOperands => "vetting: operands, a count or the height",
+            Cause::FullStack => "a literal comes on a full stack",
+            Cause::Quotient => "a quotient does not exist",
+            Cause::Shift => "a shift is beyond 31 places",
+            Cause::VetOperands =>
+                "vetting: too few operands, or a count or the height is too great",
             Cause::VetUnknown => "vetting: an operand is not known or not allowed",
-            Cause::VetBranches => "vetting: the two ways of a branch reach other heights",
+            Cause::VetBranches => "vetting: the two ways of a branch reach different heights",
             Cause::VetOutputs => "vetting: output counts disagree, or a calculator has no Range",
             Cause::VetPart => "vetting: a part is not vetted",
             Cause::VetSamples => "vetting: the table holds too few samples",
-            Cause::UnitShape => "a width or the number of tables of a sample unit",
-            Cause::UnitStretch => "a stretch or a word of a sample unit",
-            Cause::Stride => "a stride of 0",
+            Cause::UnitShape => "a sample unit has an unknown width or too many tables",
+            Cause::UnitStretch =>
+                "a stretch of a sample unit is outside its list, or a word is too great",
+            Cause::Stride => "the stride is 0",
         }
     }
 }

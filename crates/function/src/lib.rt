@@ -11,4 +11,5 @@ pub use record::Instruction;
 pub use record::Kind;
 pub use record::Record;
 pub use type2::Exponential;
+pub use type2::MAX_OUTPUTS;
 pub use type2::Type2;

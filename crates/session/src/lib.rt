@@ -3,8 +3,5 @@ mod calls;
 mod replies;
 mod run;
 
-pub use calls::perform;
-pub use calls::perform_without_set;
-pub use replies::Reply;
 pub use run::Record;
 pub use run::run_job;

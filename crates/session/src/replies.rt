@@ -1,9 +1,9 @@
 // The answer to a call, and its words in the record.
-use command::bits_text;
-use command::number_text;
 use fault::Fault;
 use fault::FaultDisplay;
 use function::Counts;
+use numerals::bits_text;
+use numerals::number_text;
 use std::alloc::AllocError;
 use std::alloc::Global;
 

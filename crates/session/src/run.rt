@@ -15,7 +15,7 @@ use std::alloc::Global;
 use units::House;
 use units::HouseArithmetic;
 ghost use mathlib.Core.Path.{_≡_};
-ghost use Prim.Native.Nat.{_<_};
+ghost use Prim.Native.Nat.{_+_, _-_, _^_, _<_};
 ghost use lib.ListN.{length};
 ghost use Rattle.std.specs.Vec.{made};
 
@@ -46,6 +46,7 @@ struct Next {
 enum Line {
     Silent,
     Wrong,
+    Opens(Sizes),
     Call(Command),
 }
 
@@ -81,23 +82,9 @@ fn run_without_set(
         match read(heap, record, lines[at], at + 1)? {
             Line::Silent => {}
             Line::Wrong => return Ok(end(lines)),
-            Line::Call(
-                Command::Open {
-                    functions,
-                    numbers,
-                    instructions,
-                },
-            ) => {
-                let sizes = Sizes {
-                    functions,
-                    numbers,
-                    instructions,
-                };
+            Line::Opens(sizes) => {
                 if opens(heap, record, lines[at], sizes)? {
-                    return Ok(Next {
-                        at: at + 1,
-                        sizes: Some(sizes),
-                    });
+                    return Ok(next(at, Some(sizes)));
                 }
             }
             Line::Call(command) => {
@@ -124,11 +111,9 @@ fn run_with_set(
     let mut numbers = vec![in heap; 0.0f32; sizes.numbers]?;
     let mut instructions = vec![in heap; Instruction::EMPTY; sizes.instructions]?;
     match Memory::open(&mut records, &mut numbers, &mut instructions) {
-        Ok(memory) => {
-            let mut set = Set::over(memory);
-            run_over(heap, record, lines, from, &mut set)
-        }
-        Err(_) => Ok(end(lines)),
+        Ok(memory) => run_over(heap, record, lines, from, &mut Set::over(memory)),
+        // the lengths were checked by the line that opens; go on without a set
+        Err(_) => run_without_set(heap, record, lines, from),
     }
 }
 
@@ -147,31 +132,14 @@ fn run_over(
         match read(heap, record, lines[at], at + 1)? {
             Line::Silent => {}
             Line::Wrong => return Ok(end(lines)),
+            Line::Opens(sizes) => {
+                if opens(heap, record, lines[at], sizes)? {
+                    return Ok(next(at, Some(sizes)));
+                }
+            }
             Line::Call(Command::Reset) => {
                 write(heap, record, lines[at], &Reply::Reset)?;
-                return Ok(Next {
-                    at: at + 1,
-                    sizes: None,
-                });
-            }
-            Line::Call(
-                Command::Open {
-                    functions,
-                    numbers,
-                    instructions,
-                },
-            ) => {
-                let sizes = Sizes {
-                    functions,
-                    numbers,
-                    instructions,
-                };
-                if opens(heap, record, lines[at], sizes)? {
-                    return Ok(Next {
-                        at: at + 1,
-                        sizes: Some(sizes),
-                    });
-                }
+                return Ok(next(at, None));
             }
             Line::Call(command) => {
                 let reply = perform(heap, set, &mut unit, &command)?;
@@ -180,6 +148,14 @@ fn run_over(
         }
     }
     Ok(end(lines))
+}
+
+// On with the line behind this one.
+fn next(at: usize, sizes: Option<Sizes>) -> Next
+    requires { ⌜ at < 2 ^ 64 - 1 ⌝ }
+    ensures { λ r. ⌜ r .at ≡ at + 1 ⌝ }
+{
+    Next { at: at + 1, sizes }
 }
 
 // Nothing is left to run.
@@ -195,6 +171,19 @@ fn end(lines: &[&str]) -> Next
 // The call on a line. One that is not understood is the record's error.
 fn read(heap: Global, record: &mut Record, line: &str, number: usize) -> Result<Line, AllocError> {
     match read_line(heap, line) {
+        Ok(
+            Some(
+                Command::Open {
+                    functions,
+                    numbers,
+                    instructions,
+                },
+            ),
+        ) => Ok(Line::Opens(Sizes {
+            functions,
+            numbers,
+            instructions,
+        })),
         Ok(Some(command)) => Ok(Line::Call(command)),
         Ok(None) => Ok(Line::Silent),
         Err(error) => {

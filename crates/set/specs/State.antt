@@ -9,7 +9,7 @@ use Rattle.std.specs.declared.result.Result.{Result}
 use Rattle.std.specs.declared.result.Result.the-variants.{Ok, Err}
 use Rattle.fault.specs.Checks.{firstFault}
 use Rattle.fault.specs.declared.cause.Fault.{Fault}
-use Rattle.numeric.specs.Lists.{laid}
+use Rattle.numeric.specs.Lists.{written}
 use Rattle.function.specs.Function.{Function}
 use Rattle.function.specs.Numbers.{numbersOf}
 use Rattle.function.specs.declared.record.Record.{Record}
@@ -35,7 +35,7 @@ pub record Untouched (m m′ : Memory) : Type 0 where
 -- one record and the function's numbers are written behind what was there, and nothing else
 pub record Appended (f : Function) (s s′ : Set) : Type 0 where
   pub records : now (s′ .memory .records) ≡ set (now (s .memory .records)) (s .count) (recordOf (s .used) f)
-  pub numbers : now (s′ .memory .numbers) ≡ laid (now (s .memory .numbers)) (s .used) (numbersOf f)
+  pub numbers : now (s′ .memory .numbers) ≡ written (now (s .memory .numbers)) (s .used) (numbersOf f)
   pub instructions : now (s′ .memory .instructions) ≡ now (s .memory .instructions)
 
 abbrev pub Stored : Function → Set → Set → Result ℕ Fault → Type 0

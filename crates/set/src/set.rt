@@ -4,6 +4,7 @@ mod load;
 mod open;
 
 use crate::memory::Memory;
+pub use evaluate::FULL_LIST;
 ghost use mathlib.Core.Path.{_≡_};
 ghost use mathlib.Core.List.{[]};
 ghost use mathlib.Core.Bool.{true};

@@ -1,6 +1,7 @@
-use mathlib.Core.Path.{_≡_}
+use mathlib.Core.Path.{_≡_, _∙_}
 use Rattle.std.proofs.shelf.Results.{err-from-errBy}
 use Rattle.function.specs.Exponential.{exponentialOf}
+use Rattle.set.proofs.Appending.{laid-is}
 use Rattle.set.proofs.Loading.{refused, room, new-records, still, new-model, new-index}
 use Rattle.set.proofs.set.Set.load_exponential.Needs as need
 
@@ -30,5 +31,5 @@ returns c =
     record {
       reply = new-index s f _ told;
       after = new-model s f _ told m r (e .value) (e .records) (e .numbers) (e .instructions);
-      lists = record { records = new-records s f _ told m r (e .value) (e .records) (e .numbers) (e .instructions); numbers = e .numbers; instructions = e .instructions };
+      lists = record { records = new-records s f _ told m r (e .value) (e .records) (e .numbers) (e .instructions); numbers = e .numbers ∙ laid-is _ _ _ (room s f _ told .1); instructions = e .instructions };
     }

@@ -12,7 +12,7 @@ use Rattle.std.specs.Finds.{BeginsChar}
 use Rattle.std.specs.declared.option.Option.the-variants.{None}
 use Rattle.std.proofs.shelf.Digits.{value-lt}
 use Rattle.std.proofs.shelf.Patterns.{starts-char}
-use Rattle.command.proofs.number.from_hex.Needs as need
+use Rattle.numerals.proofs.number.from_hex.Needs as need
 
 -- where no plus stands first, none is passed over
 plain : (bs : List ℕ) → BeginsChar 43 bs None → afterPlus bs ≡ bs

@@ -6,7 +6,7 @@ use native.Mathlib.Numerals.{add-one}
 use native.Mathlib.Omega.{arith}
 use lib.Pow.{shr-shr}
 use Rattle.std.specs.Text.{digitChar}
-use Rattle.command.specs.Numbers.{hexText}
+use Rattle.numerals.specs.Numbers.{hexText}
 
 pub hex-more : (n i : ℕ) → i < 8 → hexText (i + 1) (n / 2 ^ (32 - 4 * (i + 1))) ≡ hexText i (n / 2 ^ (32 - 4 * i)) ++ (digitChar (n / 2 ^ (28 - 4 * i) % 16) ∷ [])
 hex-more n i h =

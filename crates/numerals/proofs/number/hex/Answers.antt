@@ -5,9 +5,9 @@ use native.Mathlib.Nat.{div-one}
 use native.Mathlib.Omega.{arith}
 use Rattle.std.specs.Of.String.{string-bytes}
 use Rattle.std.specs.Text.{digitChar}
-use Rattle.command.specs.Numbers.{hexText}
-use Rattle.command.proofs.Nibbles.{hex-more}
-use Rattle.command.proofs.number.hex.Needs as need
+use Rattle.numerals.specs.Numbers.{hexText}
+use Rattle.numerals.proofs.Nibbles.{hex-more}
+use Rattle.numerals.proofs.number.hex.Needs as need
 
 pub loop-i-again : need.loop-i-again
 loop-i-again c =
