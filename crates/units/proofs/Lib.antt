@@ -1,3 +1,4 @@
+pub mod Answering
 pub mod Nans
 pub mod RoundNearest
 pub mod RootNearest

@@ -1,2 +1,3 @@
 pub mod House
 pub mod Question
+pub mod Recorded
