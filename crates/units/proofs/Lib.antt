@@ -1,4 +1,5 @@
 pub mod Answering
+pub mod Bits
 pub mod Checking
 pub mod Nans
 pub mod Reading

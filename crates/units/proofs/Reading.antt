@@ -18,8 +18,8 @@ use Rattle.std.specs.declared.option.Option.the-variants.{Some, None}
 use Rattle.std.specs.shelf.Lists.{All}
 use Rattle.fault.specs.Checks.{Check, passes}
 use Rattle.units.proofs.Checking.{few-tables, own-pass, own-width}
-use Rattle.units.specs.Directory.{covered, isWidth, widthOf, widthOr, insideCheck, directoryChecks}
-use Rattle.units.specs.Samples.{Table, WellFormed, bitsOf, firstOf, widthFrom, widths, onTable}
+use Rattle.units.specs.Directory.{covered, givenWidth, isWidth, widthOf, widthOr, insideCheck, directoryChecks}
+use Rattle.units.specs.Samples.{Table, WellFormed, bitsOf, firstOf, widthFrom, widths, onTable, widthIn}
 use Rattle.units.specs.declared.directory.Stretch.{Stretch}
 use Rattle.units.specs.declared.samples.Width.{Width}
 use Rattle.units.specs.declared.samples.Width.the-variants.{One}
@@ -66,6 +66,19 @@ module _ (f : Stretch → Table) where
   pub the-table : {A : Type 0} (answer : Table → Option A) (ss : List Stretch) (i : ℕ) (s : Stretch) → Some s ≡ nth ss i → answer (f s) ≡ onTable (nth (map f ss) i) answer
   the-table answer ss i s e = sym (ap (λ (o : Option Table). onTable o answer) (table-some ss i s (sym e)))
 
+abbrev tableFrom : (Stretch → List ℕ) → Stretch → Table
+tableFrom samples s = record { width = widthOf (s .width); samples = samples s }
+
+-- in a directory that passes each table has the width that is given
+pub width-read : (checks : ℕ → Stretch → List Check) (samples : Stretch → List ℕ) (ss : List Stretch) (i : ℕ) → passes (directoryChecks checks ss) ≡ true
+    → givenWidth (nth ss i) ≡ widthIn (map (tableFrom samples) ss) i
+width-read checks samples ss i p = go (nth ss i) refl
+  where
+    go : (o : Option Stretch) → nth ss i ≡ o → givenWidth (nth ss i) ≡ widthIn (map (tableFrom samples) ss) i
+    go None e = ap givenWidth e ∙ no-table (tableFrom samples) (λ t. Some (t .width)) ss i (sym e)
+    go (Some s) e =
+        ap givenWidth e ∙ width-from (s .width) (own-width checks ss i s p e) ∙ the-table (tableFrom samples) (λ t. Some (t .width)) ss i s (sym e)
+
 all-nth : {A : Type 0} (P : A → Type 0) (xs : List A) → ((i : ℕ) (x : A) → nth xs i ≡ Some x → P x) → All P xs
 all-nth P [] h = tt
 all-nth P (x ∷ xs) h = (h 0 x refl, all-nth P xs (λ i y e. h (suc i) y e))
@@ -73,12 +86,11 @@ all-nth P (x ∷ xs) h = (h 0 x refl, all-nth P xs (λ i y e. h (suc i) y e))
 -- the tables are well formed where the samples of each stretch that passes have no more bits than its width
 pub well-formed : (checks : ℕ → Stretch → List Check) (samples : Stretch → List ℕ) (ss : List Stretch)
     → ((i : ℕ) (s : Stretch) → passes (checks i s) ≡ true → All (λ n. n < 2 ^ s .width) (samples s))
-    → passes (directoryChecks checks ss) ≡ true → WellFormed (map (λ s. record { width = widthOf (s .width); samples = samples s }) ss)
+    → passes (directoryChecks checks ss) ≡ true → WellFormed (map (tableFrom samples) ss)
 well-formed checks samples ss h p =
-    let made : Stretch → Table = λ s. record { width = widthOf (s .width); samples = samples s } in
     let few = few-tables checks ss p in (
       simp length-map few,
-      all-map (λ t. All (λ n. n < 2 ^ bitsOf (t .width)) (t .samples)) made ss (
+      all-map (λ t. All (λ n. n < 2 ^ bitsOf (t .width)) (t .samples)) (tableFrom samples) ss (
           all-nth (λ s. All (λ n. n < 2 ^ bitsOf (widthOf (s .width))) (samples s)) ss λ i s e.
           subst (λ (b : ℕ). All (λ n. n < 2 ^ b) (samples s)) (sym (width-bits (s .width) (own-width checks ss i s p e))) (h i s (own-pass checks ss i s p e))),
     )

@@ -21,6 +21,11 @@ use Rattle.units.specs.declared.samples.Width.the-variants.{One}
 abbrev pub covered : {A : Type 0} → Stretch → List A → List A
 covered s xs = take (s .length) (drop (s .start) xs)
 
+-- the width that the directory gives a table, if it is one of the seven
+abbrev pub givenWidth : Option Stretch → Option Width
+givenWidth None = None
+givenWidth (Some s) = widthFrom (s .width)
+
 abbrev pub isWidth : ℕ → Bool
 isWidth bits = isSome (widthFrom bits)
 

@@ -1,5 +1,6 @@
 pub mod Directory
 pub mod House
+pub mod Packed
 pub mod Question
 pub mod Recorded
 pub mod Samples

@@ -57,8 +57,11 @@ abbrev pub widthIn : List Table → ℕ → Option Width
 widthIn ts i = onTable (nth ts i) (λ t. Some (t .width))
 
 -- the count as far as a usize goes: more than that would be samples of 1, 2 or 4 bits in 2 ^ 61 bytes or more
+abbrev pub countOf : Table → Option ℕ
+countOf t = Some (min (length (t .samples)) (2 ^ 64 - 1))
+
 abbrev pub countIn : List Table → ℕ → Option ℕ
-countIn ts i = onTable (nth ts i) (λ t. Some (min (length (t .samples)) (2 ^ 64 - 1)))
+countIn ts i = onTable (nth ts i) countOf
 
 abbrev pub sampleIn : List Table → ℕ → ℕ → Option ℕ
 sampleIn ts i j = onTable (nth ts i) (λ t. nth (t .samples) j)

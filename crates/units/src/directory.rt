@@ -6,7 +6,7 @@ ghost use Prim.Native.Nat.{ℕ, _+_};
 ghost use lib.Dec.{leb};
 ghost use Rattle.fault.specs.Checks.{Check, firstFault};
 ghost use Rattle.std.specs.Finite.{nth};
-ghost use Rattle.units.specs.Directory.{forEach, widthChecks, directoryChecks, passing, refusal};
+ghost use Rattle.units.specs.Directory.{givenWidth, forEach, widthChecks, directoryChecks, passing, refusal};
 ghost use Rattle.units.specs.declared.directory.Stretch.{Stretch};
 use crate::samples::Width;
 use fault::Cause;
@@ -100,6 +100,15 @@ pub(crate) fn stretch_of(directory: &[Stretch], table: usize) -> Option<Stretch>
     }
 }
 
+// The width of the table, if there is one.
+pub(crate) fn width_of(directory: &[Stretch], table: usize) -> Option<Width>
+    ensures { λ r. ⌜ r ≡ givenWidth (nth (now (directory .entry)) table) ⌝ }
+{
+    let stretch = stretch_of(directory, table)?;
+    Width::from_bits(stretch.width)
+}
+
+// A check's answer for the fault that it found, if any.
 pub(crate) fn refuse(fault: Option<Fault>) -> Result<(), Fault>
     ensures { λ r. ⌜ refusal r ≡ fault ⌝ }
 {

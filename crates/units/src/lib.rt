@@ -2,6 +2,7 @@
 mod arithmetic;
 mod directory;
 mod house;
+mod packed;
 mod question;
 mod recorded;
 mod samples;
@@ -13,6 +14,8 @@ pub use house::House;
 pub use house::HouseArithmetic;
 pub use house::power;
 pub use house::root;
+pub use packed::Packed;
+pub use packed::PackedSamples;
 pub use question::Question;
 pub use question::QuestionEq;
 pub use question::QuestionPartialEq;

@@ -16,6 +16,7 @@ use crate::directory::checked;
 use crate::directory::directory_fault;
 use crate::directory::refuse;
 use crate::directory::stretch_of;
+use crate::directory::width_of;
 use crate::samples::Samples;
 use crate::samples::Width;
 use fault::Cause;
@@ -51,8 +52,7 @@ pub impl Samples for Unpacked<'_> as UnpackedSamples {
     ghost tables = { λ u. unpackedTables (now (u .words)) (now (u .directory)) };
 
     fn width(&self, table: usize) -> Option<Width> {
-        let stretch = stretch_of(self.directory, table)?;
-        Width::from_bits(stretch.width)
+        width_of(self.directory, table)
     }
 
     fn count(&self, table: usize) -> Option<usize> {
