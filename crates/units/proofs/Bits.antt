@@ -1,6 +1,6 @@
 -- The bits of bytes: where a sample's bits lie, and the number that they spell. Assumes nothing.
 use mathlib.Core.Bool.{true}
-use mathlib.Core.List.{List, [], _∷_, _++_, map}
+use mathlib.Core.List.{List, [], _∷_, _++_}
 use mathlib.Core.Path.{_≡_, refl, sym, ap, _∙_, subst}
 use Prim.Native.Nat.{ℕ, zero, suc, _+_, _-_, _*_, _/_, _%_, _^_, _≤_, _<_}
 use native.Mathlib.Nat.{lt-of-lt-of-le, mul-zero, mul-assoc, mul-comm, add-mul, mul-right-comm, mul-div-cancel, mul-add-div-right, mul-div-mul-right}
@@ -8,9 +8,9 @@ use native.Mathlib.Omega.{arith}
 use lib.Bits.{bitAnd}
 use lib.ListN.{length, getD, take, drop}
 use lib.Pow.{pow-mono}
-use Rattle.std.proofs.shelf.Bits.{pow-pos, pow-add, shr-shr, mod-pow-add, div-add-mod', mod-below, mul-le, one-shl, and-mask}
+use Rattle.std.proofs.shelf.Bits.{pow-add, shr-shr, mod-pow-add, div-add-mod', mod-below, mul-le, one-shl, and-mask}
 use Rattle.std.proofs.shelf.Elements.{all-append, all-take, all-drop, all-map}
-use Rattle.std.proofs.shelf.Lists.{length-append, length-take, drop-drop, drop-more, drop-append-le, take-append-le, append-nil}
+use Rattle.std.proofs.shelf.Lists.{length-append, length-take, drop-drop, drop-more, drop-append-le, take-append-le}
 use Rattle.std.proofs.shelf.Counted.{length-map-counting, getD-map-counting}
 use Rattle.std.proofs.shelf.Maps.{nth-getD, nth-past}
 use Rattle.std.specs.Finite.{nth}
