@@ -1,2 +1,7 @@
+pub mod Directory
 pub mod House
+pub mod Packed
 pub mod Question
+pub mod Recorded
+pub mod Samples
+pub mod Unpacked
