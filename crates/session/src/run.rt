@@ -84,7 +84,7 @@ fn run_without_set(
             Line::Wrong => return Ok(end(lines)),
             Line::Opens(sizes) => {
                 if opens(heap, record, lines[at], sizes)? {
-                    return Ok(next(at, Some(sizes)));
+                    return Ok(go_on(at, Some(sizes)));
                 }
             }
             Line::Call(command) => {
@@ -134,12 +134,12 @@ fn run_over(
             Line::Wrong => return Ok(end(lines)),
             Line::Opens(sizes) => {
                 if opens(heap, record, lines[at], sizes)? {
-                    return Ok(next(at, Some(sizes)));
+                    return Ok(go_on(at, Some(sizes)));
                 }
             }
             Line::Call(Command::Reset) => {
                 write(heap, record, lines[at], &Reply::Reset)?;
-                return Ok(next(at, None));
+                return Ok(go_on(at, None));
             }
             Line::Call(command) => {
                 let reply = perform(heap, set, &mut unit, &command)?;
@@ -151,7 +151,7 @@ fn run_over(
 }
 
 // On with the line behind this one.
-fn next(at: usize, sizes: Option<Sizes>) -> Next
+fn go_on(at: usize, sizes: Option<Sizes>) -> Next
     requires { ⌜ at < 2 ^ 64 - 1 ⌝ }
     ensures { λ r. ⌜ r .at ≡ at + 1 ⌝ }
 {
