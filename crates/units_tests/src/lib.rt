@@ -3,3 +3,5 @@
 mod house;
 #[cfg(test)]
 mod question;
+#[cfg(test)]
+mod recorded;
