@@ -1,0 +1,83 @@
+-- Stitched functions (type 3): what a caller gives, what is checked, and which part an input goes to. Assumes nothing.
+use denote.Ref.{now}
+use mathlib.Core.Bool.{Bool, true, _&&_, _||_, cond}
+use mathlib.Core.List.{List, [], _∷_, _++_}
+use Prim.Native.Nat.{ℕ, suc, _-_, max}
+use lib.Dec.{eqb, leb, ltb}
+use lib.Ieee.{Float, nan, binary32, add, sub, lt, le, eq, ofBits}
+use lib.ListN.{length, getD}
+use Rattle.std.specs.Floats.{finite}
+use Rattle.fault.specs.Checks.{Check, check, fault}
+use Rattle.fault.specs.declared.cause.Cause.the-variants.{Count, NotFinite, UpsideDown, CountsDisagree, Part, Bounds, Depth}
+use Rattle.numeric.specs.Interval.{Interval, bothFinite, rises, interpolate}
+use Rattle.numeric.specs.Lists.{every}
+use Rattle.function.specs.Limits.{fromOneTo, fullList, mostParts, mostDepth}
+
+-- what a stitched function must know of an earlier one: how many inputs it takes, and how deep it is
+pub record Earlier : Type 0 where
+  pub inputs : ℕ
+  pub depth : ℕ
+
+-- 0.0001
+abbrev pub hair : Float
+hair = ofBits binary32 0x38d1_b717
+
+-- ---- what is checked
+
+-- each bound is at least the one before it, the first at least `low`, and at most `high`
+abbrev pub boundsRise : Float → Float → List Float → Bool
+boundsRise low high [] = true
+boundsRise low high (b ∷ bs) = le low b && (le b high && boundsRise b high bs)
+
+abbrev pub noEarlier : Earlier
+noEarlier = record { inputs = 0; depth = 0 }
+
+-- loaded earlier, and of one input
+abbrev pub isPart : List Earlier → ℕ → Bool
+isPart earlier p = ltb p (length earlier) && eqb (getD earlier p noEarlier .inputs) 1
+
+abbrev pub deepest : List Earlier → List ℕ → ℕ
+deepest earlier [] = 0
+deepest earlier (p ∷ ps) = max (getD earlier p noEarlier .depth) (deepest earlier ps)
+
+abbrev pub firstPair : List Interval → Interval
+firstPair pairs = getD pairs 0 (nan, nan)
+
+abbrev pub stitchedChecks : List Earlier → List Interval → List Interval → List ℕ → List Float → List Interval → List Check
+stitchedChecks earlier domain range parts bounds encode =
+    let index = length earlier in
+    check (eqb (length domain) 1 && (fromOneTo mostParts (length parts) && leb (length range) fullList)) (fault Count index)
+    ∷ check (every bothFinite domain && (every bothFinite range && (every finite bounds && every bothFinite encode))) (fault NotFinite index)
+    ∷ check (every rises domain && every rises range) (fault UpsideDown index)
+    ∷ check (eqb (length bounds) (length parts - 1) && eqb (length encode) (length parts)) (fault CountsDisagree index)
+    ∷ check (every (isPart earlier) parts) (fault Part index)
+    ∷ check (boundsRise (firstPair domain .0) (firstPair domain .1) bounds) (fault Bounds index)
+    ∷ check (ltb (deepest earlier parts) mostDepth) (fault Depth index)
+    ∷ []
+
+-- ---- which part an input goes to
+
+-- Bounds with the ends of the Domain, each a hair wider
+abbrev pub fullBounds : Interval → List Float → List Float
+fullBounds domain bounds = sub binary32 (domain .0) hair ∷ (bounds ++ (add binary32 (domain .1) hair ∷ []))
+
+-- the first part whose upper bound lies above the input, else the last: an inner bound belongs to the part on its right
+abbrev pub pick : List Float → Float → ℕ
+pick [] x = 0
+pick (b ∷ bs) x = cond (lt x b) 0 (suc (pick bs x))
+
+-- the stretch of a part, from its lower to its upper bound
+abbrev pub stretch : Interval → List Float → ℕ → Interval
+stretch domain bounds i = (getD (fullBounds domain bounds) i nan, getD (fullBounds domain bounds) (suc i) nan)
+
+-- an input, taken from a stretch to an Encode pair; equal ends give its first number
+abbrev pub encoded : Float → Interval → Interval → Float
+encoded x from to = cond (eq (from .0) (from .1)) (to .0) (interpolate x from to)
+
+-- The rule that `pick` comes to: the Domain's second number belongs to the last part, any other input of the Domain to the part whose
+-- stretch holds it, the upper bound left out.
+abbrev pub belongs : Interval → List Float → Float → ℕ → Bool
+belongs domain bounds x i =
+    cond (eq x (domain .1))
+    (eqb i (length bounds))
+    (leb i (length bounds) && (le (stretch domain bounds i .0) x && lt x (stretch domain bounds i .1)))
