@@ -1,3 +1,4 @@
+pub mod Appending
 pub mod Every
 pub mod Flat
 pub mod Inside

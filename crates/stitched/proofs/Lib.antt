@@ -1,0 +1,4 @@
+pub mod Choosing
+pub mod Nesting
+pub mod Rising
+pub mod Storing
