@@ -1,5 +1,6 @@
 -- Which part an input goes to. Assumes nothing.
 use mathlib.Core.Path.{_≡_, refl, sym, ap, _∙_}
+use mathlib.Core.Logic.{inl, inr}
 use mathlib.Core.Bool.{Bool, true, false, cond}
 use mathlib.Core.List.{List, [], _∷_, _++_}
 use Prim.Native.Nat.{ℕ, zero, suc, _+_, _-_, _*_, _/_, _≤_, _<_}
@@ -7,7 +8,7 @@ use native.Mathlib.Omega.{arith}
 use lib.ListN.{length, getD, drop}
 use lib.Ieee.{Float, nan, lt, toUnsigned}
 use Rattle.std.proofs.shelf.Lists.{at-drop-more, at-drop-all, getD-past}
-use Rattle.std.proofs.shelf.Tests.{cond-true, cond-false, cond-both}
+use Rattle.std.proofs.shelf.Tests.{cond-true, cond-false, cond-both, cases-bool, cases-lt, false≢true}
 use Rattle.numeric.specs.Interval.{Interval}
 use Rattle.numeric.specs.Lists.{pairsOf}
 use Rattle.numeric.specs.Whole.{cutUnsigned}
@@ -42,6 +43,36 @@ pick-all bounds x i h p =
 pub pick-within : (bounds : List Float) (x : Float) → pick bounds x ≤ length bounds
 pick-within [] x = omega arith
 pick-within (b ∷ bs) x = cond-both (lt x b) 0 (suc (pick bs x)) (λ (n : ℕ). n ≤ suc (length bs)) (λ _. omega arith) (λ _. let k = pick-within bs x in omega arith)
+
+-- x lies above or on each bound before the chosen part, and below the one behind it
+pub pick-passed : (bounds : List Float) (x : Float) (i : ℕ) → i < pick bounds x → lt x (getD bounds i nan) ≡ false
+pick-passed [] x i h = absurd (omega arith)
+pick-passed (b ∷ bs) x i h =
+    elim (cases-bool (lt x b)) [
+      | inl e ↦ absurd (omega (arith, cond-true (lt x b) 0 (suc (pick bs x)) e))
+      | inr e ↦ at (λ j. pick-passed bs x j) i e (omega (arith, cond-false (lt x b) 0 (suc (pick bs x)) e))
+    ]
+  where
+    at : ((j : ℕ) → j < pick bs x → lt x (getD bs j nan) ≡ false) → (i : ℕ) → lt x b ≡ false → i < suc (pick bs x) → lt x (getD (b ∷ bs) i nan) ≡ false
+    at rest zero e k = e
+    at rest (suc j) e k = rest j (omega arith)
+
+pub pick-stops : (bounds : List Float) (x : Float) → pick bounds x < length bounds → lt x (getD bounds (pick bounds x) nan) ≡ true
+pick-stops [] x h = absurd (omega arith)
+pick-stops (b ∷ bs) x h =
+    elim (cases-bool (lt x b)) [
+      | inl e ↦ ap (λ (n : ℕ). lt x (getD (b ∷ bs) n nan)) (cond-true (lt x b) 0 (suc (pick bs x)) e) ∙ e
+      | inr e ↦
+          let k = cond-false (lt x b) 0 (suc (pick bs x)) e in
+          ap (λ (n : ℕ). lt x (getD (b ∷ bs) n nan)) k ∙ pick-stops bs x (omega (arith, k))
+    ]
+
+pub pick-last : (bounds : List Float) (x : Float) → ((i : ℕ) → i < length bounds → lt x (getD bounds i nan) ≡ false) → pick bounds x ≡ length bounds
+pick-last bounds x f =
+    elim (cases-lt (pick bounds x) (length bounds)) [
+      | inl h ↦ absurd (false≢true (sym (f (pick bounds x) h) ∙ pick-stops bounds x h))
+      | inr h ↦ let k = pick-within bounds x in omega arith
+    ]
 
 -- ---- the pairs in a list of numbers
 

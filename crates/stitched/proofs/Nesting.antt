@@ -1,13 +1,13 @@
 -- The parts of a stitched function among the functions loaded earlier. Assumes nothing.
-use mathlib.Core.Path.{_≡_, sym, ap, _∙_}
+use mathlib.Core.Path.{_≡_, refl}
 use mathlib.Core.Bool.{true}
 use mathlib.Core.List.{List, [], _∷_}
-use Prim.Native.Nat.{ℕ, zero, suc, max, _+_, _≤_, _<_}
+use Prim.Native.Nat.{ℕ, zero, suc, max, _+_, _^_, _≤_, _<_}
 use native.Mathlib.Omega.{arith}
 use lib.Dec.{eqb, ltb}
 use lib.ListN.{length, getD, drop}
 use Rattle.std.proofs.shelf.Lists.{at-drop-more, at-drop-all}
-use Rattle.std.proofs.shelf.Tests.{and-parts, ltb-true, eqb-true}
+use Rattle.std.proofs.shelf.Tests.{and-from, and-parts, lt-ltb, ltb-true, eqb-true}
 use Rattle.numeric.specs.Lists.{every}
 use Rattle.numeric.proofs.Every.{every-at}
 use Rattle.stitched.specs.Stitched.{Known, noEarlier, isPart, deepest}
@@ -46,3 +46,11 @@ module _ (earlier : List Known) where
   part-depth [] i h = absurd (omega arith)
   part-depth (p ∷ ps) zero h = omega arith
   part-depth (p ∷ ps) (suc i) h = let d = part-depth ps i (omega arith) in omega arith
+
+  -- what is loaded is few enough for f32 to count
+  pub parts-small : (parts : List ℕ) → length earlier ≤ 2 ^ 24 → every (isPart earlier) parts ≡ true → every (λ (p : ℕ). ltb p (2 ^ 24)) parts ≡ true
+  parts-small [] h e = refl
+  parts-small (p ∷ ps) h e =
+      let k = and-parts (isPart earlier p) (every (isPart earlier) ps) e in
+      let l = ltb-true p (length earlier) (and-parts (ltb p (length earlier)) (eqb (getD earlier p noEarlier .inputs) 1) (k .0) .0) in
+      and-from (ltb p (2 ^ 24)) (every (λ (q : ℕ). ltb q (2 ^ 24)) ps) (lt-ltb p (2 ^ 24) (omega arith)) (parts-small ps h (k .1))

@@ -3,12 +3,12 @@ use mathlib.Core.Path.{_≡_, refl, sym, ap, _∙_}
 use mathlib.Core.Logic.{_⊎_, inl, inr}
 use mathlib.Core.Bool.{true, false}
 use mathlib.Core.List.{List, [], _∷_, _++_, map}
-use Prim.Native.Nat.{ℕ, suc, _+_, _-_, _*_, _/_, _^_, _≤_, _<_}
+use Prim.Native.Nat.{ℕ, zero, suc, _+_, _-_, _*_, _/_, _^_, _≤_, _<_}
 use native.Mathlib.Omega.{arith}
 use lib.Dec.{leb, ltb, le→leb}
 use lib.IntN.{pos}
 use lib.ListN.{length, getD, set, take, drop}
-use lib.Ieee.{Float, nan, binary32, inFloat}
+use lib.Ieee.{Float, nan, binary32, inFloat, toUnsigned}
 use lib.Ieee.Back.{unsigned-back}
 use Rattle.std.proofs.shelf.Lists.{append-assoc, take-append-drop, drop-more, map-more, take-all, set-at, length-append, length-map, length-take-le}
 use Rattle.std.proofs.shelf.Tests.{and-parts, ltb-true, cases-lt, lt-leb, le-leb}
@@ -30,6 +30,16 @@ indices-back [] e = refl
 indices-back (p ∷ ps) e =
     let k = and-parts (ltb p (2 ^ 24)) (every (λ (q : ℕ). ltb q (2 ^ 24)) ps) e in
     λ j. index-back p (ltb-true p (2 ^ 24) (k .0)) j ∷ indices-back ps (k .1) j
+
+-- the part in a stretch, from the list of all
+pub part-at : (numbers : List Float) (i : ℕ) → cutUnsigned 32 (getD numbers i nan) ≡ getD (map (cutUnsigned 32) numbers) i 0
+unfolding toUnsigned
+part-at [] i = refl
+part-at (x ∷ xs) zero = refl
+part-at (x ∷ xs) (suc i) = part-at xs i
+
+pub part-back : (parts : List ℕ) (i : ℕ) → every (λ (p : ℕ). ltb p (2 ^ 24)) parts ≡ true → cutUnsigned 32 (getD (map indexNumber parts) i nan) ≡ getD parts i 0
+part-back parts i e = part-at (map indexNumber parts) i ∙ ap (λ (ps : List ℕ). getD ps i 0) (indices-back parts e)
 
 -- an entry for each part and each bound, and two for each Encode pair
 pub own-length : (parts : List ℕ) (bounds : List Float) (encode : List Interval) → length (ownNumbers parts bounds encode) ≡ length parts + (length bounds + 2 * length encode)

@@ -1,15 +1,16 @@
 -- Stitched functions (type 3): what a caller gives, what is checked, and which part an input goes to. Assumes nothing.
+use mathlib.Core.Path.{_≡_}
 use mathlib.Core.Bool.{Bool, true, _&&_, cond}
 use mathlib.Core.List.{List, [], _∷_, _++_, map}
-use Prim.Native.Nat.{ℕ, suc, _-_, max}
+use Prim.Native.Nat.{ℕ, suc, _-_, _<_, max}
 use lib.IntN.{pos}
-use lib.Dec.{eqb, leb, ltb}
-use lib.Ieee.{Float, nan, binary32, add, sub, lt, le, eq, ofBits}
+use lib.Dec.{T, eqb, leb, ltb}
+use lib.Ieee.{Float, nan, binary32, add, sub, lt, le, eq, fits, ofBits}
 use lib.ListN.{length, getD}
 use Rattle.std.specs.Floats.{finite}
 use Rattle.fault.specs.Checks.{Check, check, fault}
 use Rattle.fault.specs.declared.cause.Cause.the-variants.{Count, NotFinite, UpsideDown, CountsDisagree, Part, Bounds, Depth}
-use Rattle.numeric.specs.Interval.{Interval, bothFinite, rises, interpolate, clampAll}
+use Rattle.numeric.specs.Interval.{Interval, bothFinite, rises, ordered, within, interpolate, clampAll}
 use Rattle.numeric.specs.Lists.{every, flat}
 use Rattle.numeric.specs.Whole.{cutUnsigned, nearestTo}
 use Rattle.function.specs.Answer.{first}
@@ -123,3 +124,15 @@ belongs domain bounds x i =
     cond (eq x (domain .1))
     (eqb i (length bounds))
     (leb i (length bounds) && (le (stretch domain bounds i .0) x && lt x (stretch domain bounds i .1)))
+
+-- Exactly one part: for every Domain and Bounds that pass the checks, a number x of the Domain belongs to the part r and to no other.
+abbrev pub OnlyPart : List Float → Float → ℕ → Type 0
+OnlyPart bounds x r =
+    (domain : Interval) → T (fits binary32 (domain .0)) → T (fits binary32 (domain .1)) → ordered domain ≡ true → boundsRise (domain .0) (domain .1) bounds ≡ true → within domain x ≡ true
+    → (i : ℕ) → belongs domain bounds x i ≡ eqb i r
+
+-- the same of a clamped input, for the Domain that clamps it
+abbrev pub OnlyStretch : List Interval → List Float → List Float → ℕ → Type 0
+OnlyStretch domain bounds inputs r =
+    ordered (firstPair domain) ≡ true → boundsRise (firstPair domain .0) (firstPair domain .1) bounds ≡ true → 0 < length inputs
+    → (i : ℕ) → belongs (firstPair domain) bounds (first (clampAll domain inputs)) i ≡ eqb i r

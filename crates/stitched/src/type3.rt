@@ -19,7 +19,7 @@ ghost use mathlib.Core.Bool.{Bool, true, _&&_};
 ghost use mathlib.Core.List.{List, map};
 ghost use Prim.Native.Nat.{ℕ, _<_, _≤_, _+_, _-_};
 ghost use lib.Dec.{eqb, leb, ltb, T};
-ghost use lib.Ieee.{Float, nan, binary32};
+ghost use lib.Ieee.{nan, binary32, fits};
 ghost use lib.ListN.{length, getD};
 ghost use Rattle.std.specs.Floats.{finite};
 ghost use Rattle.fault.specs.Checks.{firstFault};
@@ -28,7 +28,7 @@ ghost use Rattle.numeric.specs.Lists.{every, pairsOf, Lays};
 ghost use Rattle.numeric.specs.Whole.{cutUnsigned};
 ghost use Rattle.function.specs.Limits.{fromOneTo, mostParts};
 ghost use Rattle.function.specs.Numbers.{judged};
-ghost use Rattle.stitched.specs.Stitched.{boundsRise, countsFit, allFinite, countsAgree, firstPair, stitchedChecks, needsOf, indexNumber, ownNumbers, fullBounds, pick, partInput, choice};
+ghost use Rattle.stitched.specs.Stitched.{boundsRise, countsFit, allFinite, countsAgree, firstPair, stitchedChecks, needsOf, indexNumber, ownNumbers, fullBounds, pick, partInput, choice, OnlyPart, OnlyStretch};
 
 // The most parts of a stitched function, the most Range pairs, and how deep stitched functions nest.
 const MAX_PARTS: usize = 32;
@@ -222,16 +222,19 @@ pub struct Chosen {
 }
 
 impl Type3<'_> {
-    // Where the first input goes once it is clamped to the Domain.
+    // Where the first input goes once it is clamped to the Domain. With a Domain and Bounds that pass the checks no other
+    // stretch holds it.
     pub fn choose(&self, inputs: &[f32]) -> Chosen
-        ensures { λ r. ⌜ r ≡ choice (pairsOf (now (now (self .entry) .domain))) (now (now (self .entry) .parts)) (now (now (self .entry) .bounds)) (pairsOf (now (now (self .entry) .encode))) (now (inputs .entry)) ⌝ }
+        ensures chosen { λ r. ⌜ r ≡ choice (pairsOf (now (now (self .entry) .domain))) (now (now (self .entry) .parts)) (now (now (self .entry) .bounds)) (pairsOf (now (now (self .entry) .encode))) (now (inputs .entry)) ⌝ }
+        ensures only { λ r. ⌜ OnlyStretch (pairsOf (now (now (self .entry) .domain))) (now (now (self .entry) .bounds)) (now (inputs .entry)) (r .stretch) ⌝ }
     {
+        let domain = pair_at(self.domain, 0);
         let x = clamp_first(self.domain, inputs);
         let stretch = find_interval(self.bounds, x);
         Chosen {
             stretch,
             part: self.part(stretch),
-            input: self.encoded(x, stretch),
+            input: self.encoded(domain, x, stretch),
         }
     }
 
@@ -247,12 +250,12 @@ impl Type3<'_> {
     }
 
     // What the part in the stretch i gets for x.
-    fn encoded(&self, x: f32, i: usize) -> f32
+    fn encoded(&self, domain: (f32, f32), x: f32, i: usize) -> f32
         requires { ⌜ i ≤ length (now (now self .bounds)) ⌝ }
-        ensures { λ r. ⌜ r ≡ partInput (firstPair (pairsOf (now (now (self .entry) .domain)))) (now (now (self .entry) .bounds)) (pairsOf (now (now (self .entry) .encode))) x i ⌝ }
+        ensures { λ r. ⌜ r ≡ partInput domain (now (now (self .entry) .bounds)) (pairsOf (now (now (self .entry) .encode))) x i ⌝ }
     {
-        let low = self.full_bound(i);
-        let high = self.full_bound(i + 1);
+        let low = full_bound(domain, self.bounds, i);
+        let high = full_bound(domain, self.bounds, i + 1);
         let (first, second) = pair_at(self.encode, i);
         if low == high {
             first
@@ -260,25 +263,26 @@ impl Type3<'_> {
             interpolate(x, low, high, first, second)
         }
     }
+}
 
-    // The number i of the Bounds with the ends of the Domain, each a hair wider.
-    fn full_bound(&self, i: usize) -> f32
-        requires { ⌜ i ≤ length (now (now self .bounds)) + 1 ⌝ }
-        ensures { λ r. ⌜ r ≡ getD (fullBounds (firstPair (pairsOf (now (now (self .entry) .domain)))) (now (now (self .entry) .bounds))) i nan ⌝ }
-    {
-        if i == 0 {
-            pair_at(self.domain, 0).0 - HAIR
-        } else if i <= self.bounds.len() {
-            self.bounds[i - 1]
-        } else {
-            pair_at(self.domain, 0).1 + HAIR
-        }
+// The number i of the Bounds with the ends of the Domain, each a hair wider.
+fn full_bound(domain: (f32, f32), bounds: &[f32], i: usize) -> f32
+    requires { ⌜ i ≤ length (now bounds) + 1 ⌝ }
+    ensures { λ r. ⌜ r ≡ getD (fullBounds domain (now (bounds .entry))) i nan ⌝ }
+{
+    if i == 0 {
+        domain.0 - HAIR
+    } else if i <= bounds.len() {
+        bounds[i - 1]
+    } else {
+        domain.1 + HAIR
     }
 }
 
 // The pair i of those that lie in the list, two NaNs where there is none.
 fn pair_at(numbers: &[f32], i: usize) -> (f32, f32)
-    ensures { λ r. ⌜ r ≡ getD (pairsOf (now (numbers .entry))) i (nan, nan) ⌝ }
+    ensures pair { λ r. ⌜ r ≡ getD (pairsOf (now (numbers .entry))) i (nan, nan) ⌝ }
+    ensures single { λ r. ⌜ T (fits binary32 (r .0)) × T (fits binary32 (r .1)) ⌝ }
 {
     if i < numbers.len() / 2 {
         (numbers[2 * i], numbers[2 * i + 1])
@@ -289,7 +293,8 @@ fn pair_at(numbers: &[f32], i: usize) -> (f32, f32)
 
 // The part that x belongs to: the first whose upper bound lies above x, else the last.
 pub fn find_interval(bounds: &[f32], x: f32) -> usize
-    ensures { λ r. ⌜ r ≡ pick (now (bounds .entry)) x ⌝ }
+    ensures place { λ r. ⌜ r ≡ pick (now (bounds .entry)) x ⌝ }
+    ensures only { λ r. ⌜ OnlyPart (now (bounds .entry)) x r ⌝ }
 {
     for (i, bound) in bounds.iter().enumerate() {
         if x < *bound {
