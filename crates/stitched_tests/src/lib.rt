@@ -1,47 +1,19 @@
 // Stitched functions: every refusal, what is stored, and which part an input goes to.
+mod loaded;
+
 #[cfg(test)]
 mod tests {
+    use crate::loaded::Loaded;
+    use crate::loaded::LoadedEarlier;
     use fault::Cause;
     use fault::Fault;
     use fault::FaultPartialEq;
     use std::test::*;
     use stitched::Chosen;
-    use stitched::Earlier;
     use stitched::Needs;
     use stitched::Stitched;
     use stitched::Type3;
     use stitched::find_interval;
-    ghost use denote.Ref.{now};
-    ghost use Rattle.stitched_tests.specs.Listed.{listed};
-
-    // The inputs and the depth of each function that is loaded.
-    struct Loaded<'a> {
-        functions: &'a [(usize, usize)],
-    }
-
-    impl Earlier for Loaded<'_> as LoadedEarlier {
-        ghost known = { λ l. listed (now (l .functions)) };
-
-        fn count(&self) -> usize {
-            self.functions.len()
-        }
-
-        fn inputs(&self, index: usize) -> usize {
-            if index < self.functions.len() {
-                self.functions[index].0
-            } else {
-                0
-            }
-        }
-
-        fn depth(&self, index: usize) -> usize {
-            if index < self.functions.len() {
-                self.functions[index].1
-            } else {
-                0
-            }
-        }
-    }
 
     // Three functions of one input, the last seven deep, one of two inputs, and one eight deep.
     const FUNCTIONS: [(usize, usize); 5] = [(1, 1), (1, 2), (1, 7), (2, 1), (1, 8)];
