@@ -1,7 +1,7 @@
 -- The order of all floats: it passes on, `lt` is what `le` the other way round is not, and it is the order of the numbers that they stand for. Assumes nothing.
 use mathlib.Core.Path.{_≡_, refl, sym, ap, subst, _∙_}
 use mathlib.Core.Logic.{inl, inr}
-use mathlib.Core.Bool.{Bool, true, false, not, _&&_, _||_}
+use mathlib.Core.Bool.{Bool, true, false, _&&_, _||_}
 use Prim.Native.Nat.{ℕ, _+_, _*_, _≤_, _<_}
 use native.Mathlib.Nat.{eq-zero-or-pos, mul-pos, zero-mul, mul-le-mul-right}
 use native.Mathlib.Omega.{arith}
@@ -11,7 +11,7 @@ use lib.Ieee.Exact.{HasValue}
 use lib.Ieee.Fits.{down-pos}
 use lib.Ieee.Order.{transfer}
 use lib.Ieee.Positive.{through}
-use Rattle.std.proofs.shelf.Tests.{lt-ltb, le-ltb, ltb-true, eq-eqb, eqb-true, cases-lt, and-from, and-parts, or-cases, or-parts, or-left, or-right, true≢false, false≢true}
+use Rattle.std.proofs.shelf.Tests.{lt-ltb, le-ltb, ltb-true, eq-eqb, eqb-true, cases-lt, and-from, and-parts, or-cases, or-left, or-right, false≢true}
 
 -- ---- ±a ≤ ±b as a fact of numbers
 

@@ -6,7 +6,6 @@ use mathlib.Core.List.{List, [], _∷_, _++_, map}
 use Prim.Native.Nat.{ℕ, zero, suc, _+_, _-_, _*_, _/_, _^_, _≤_, _<_}
 use native.Mathlib.Omega.{arith}
 use lib.Dec.{leb, ltb, le→leb}
-use lib.IntN.{pos}
 use lib.ListN.{length, getD, set, take, drop}
 use lib.Ieee.{Float, nan, binary32, inFloat, toUnsigned}
 use lib.Ieee.Back.{unsigned-back}

@@ -1,9 +1,8 @@
 // The functions that are loaded already, as far as a new stitched function must know them.
 ghost use denote.Ref.{now};
 ghost use mathlib.Core.Path.{_≡_};
-ghost use mathlib.Core.Bool.{Bool, _&&_};
+ghost use mathlib.Core.Bool.{_&&_};
 ghost use mathlib.Core.List.{List};
-ghost use lib.Dec.{eqb, ltb};
 ghost use lib.ListN.{length, getD};
 ghost use Rattle.numeric.specs.Lists.{every};
 ghost use Rattle.stitched.specs.Stitched.{Known, noEarlier, isPart, deepest};
