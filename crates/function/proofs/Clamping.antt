@@ -8,7 +8,7 @@ use lib.ListN.{length, getD, take, drop, length-take}
 use Rattle.numeric.specs.Interval.{Interval, clamp, clampAll}
 use Rattle.numeric.specs.Lists.{pairsOf}
 use Rattle.numeric.proofs.Ranges.{length-clampAll}
-use Rattle.function.specs.Evaluate.{first}
+use Rattle.function.specs.Answer.{first}
 use Rattle.function.specs.Outputs.{over}
 use Rattle.function.proofs.Writing.{over-fits}
 

@@ -16,8 +16,8 @@ use Rattle.numeric.proofs.Flat.{length-flat}
 use Rattle.function.specs.Function.{Function, Body, exponential}
 use Rattle.function.specs.Numbers.{numbersOf, bodyNumbers, judged}
 
-pub judged-passes : (cs : List Check) (k n : ℕ) → passes cs ≡ true → k ≡ n → Ok k ≡ judged (firstFault cs) n
-judged-passes cs k n p e = ap (λ (i : ℕ). Ok i) e ∙ sym (ap (λ o. judged o n) (passes-none cs p))
+pub judged-passes : {A : Type 0} (cs : List Check) (k n : A) → passes cs ≡ true → k ≡ n → Ok k ≡ judged (firstFault cs) n
+judged-passes {A} cs k n p e = ap (λ (i : A). Ok i) e ∙ sym (ap (λ o. judged o n) (passes-none cs p))
 
 -- two entries for each pair, one for each other number
 pub numbers-length : (f : Function) → length (numbersOf f) ≡ 2 * length (f .domain) + 2 * length (f .range) + length (bodyNumbers (f .body))
@@ -30,17 +30,17 @@ numbers-length f =
 
 -- ---- what an answer says of the checks behind it
 
-pub judged-ok : (o : Option Fault) (k n : ℕ) → Ok k ≡ judged o n → (o ≡ None) × (k ≡ n)
+pub judged-ok : {A : Type 0} (o : Option Fault) (k n : A) → Ok k ≡ judged o n → (o ≡ None) × (k ≡ n)
 judged-ok None k n e = (refl, cc)
 judged-ok (Some d) k n e = let z : _≡_ {A = ℕ} 0 1 = cc in absurd (omega arith)
 
-pub judged-err : (o : Option Fault) (d : Fault) (n : ℕ) → Err d ≡ judged o n → o ≡ Some d
+pub judged-err : {A : Type 0} (o : Option Fault) (d : Fault) (n : A) → Err d ≡ judged o n → o ≡ Some d
 judged-err None d n e = cc
 judged-err (Some c) d n e = cc
 
 -- more checks behind those that were made
-pub judged-break : (cs ds : List Check) (d : Fault) (n : ℕ) → Err d ≡ judged (firstFault cs) n → Err d ≡ judged (firstFault (cs ++ ds)) n
+pub judged-break : {A : Type 0} (cs ds : List Check) (d : Fault) (n : A) → Err d ≡ judged (firstFault cs) n → Err d ≡ judged (firstFault (cs ++ ds)) n
 judged-break cs ds d n e = sym (ap (λ (o : Option Fault). judged o n) (fault-append cs ds d (judged-err (firstFault cs) d n e)))
 
-pub judged-more : (cs ds : List Check) (k n : ℕ) → Ok k ≡ judged (firstFault cs) n → firstFault (cs ++ ds) ≡ firstFault ds
+pub judged-more : {A : Type 0} (cs ds : List Check) (k n : A) → Ok k ≡ judged (firstFault cs) n → firstFault (cs ++ ds) ≡ firstFault ds
 judged-more cs ds k n e = passes-append cs ds (none-passes cs (judged-ok (firstFault cs) k n e .0))

@@ -13,8 +13,8 @@ use Rattle.fault.specs.Checks.{Check, check, fault}
 use Rattle.fault.specs.declared.cause.Cause.the-variants.{Count, NotFinite, UpsideDown, CountsDisagree}
 use Rattle.numeric.specs.Interval.{Interval, bothFinite, rises}
 use Rattle.numeric.specs.Lists.{every, pairsOf}
-use Rattle.units.specs.declared.question.Question.{Question}
 use Rattle.units.specs.declared.question.Question.the-variants.{Power}
+use Rattle.function.specs.Answer.{Meaning}
 use Rattle.function.specs.Function.{Function, exponential}
 use Rattle.function.specs.Limits.{fromOneTo, mostOutputs}
 use Rattle.function.specs.declared.type2.Exponential.{Exponential}
@@ -71,9 +71,6 @@ abbrev pub givenChecks : ℕ → Exponential → List Check
 givenChecks index e = exponentialChecks index (now (e .domain)) (now (e .range)) (c0Of e) (c1Of e) (e .n)
 
 -- ---- what is computed
-
-abbrev pub Meaning : Type 0
-Meaning = Question → Float → Float → Float
 
 -- the input itself where N is 1, else its power by the arithmetic unit
 abbrev pub factor : Meaning → Float → Float → Float

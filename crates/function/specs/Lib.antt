@@ -1,3 +1,4 @@
+pub mod Answer
 pub mod Evaluate
 pub mod Exponential
 pub mod Function

@@ -13,3 +13,20 @@ mostOutputs = 32
 -- the least length of an output list
 abbrev pub fullList : ℕ
 fullList = 64
+
+-- the most inputs of a sampled function, the largest Size of one, and the most samples of all
+abbrev pub mostInputs : ℕ
+mostInputs = 4
+
+abbrev pub mostSize : ℕ
+mostSize = 65535
+
+abbrev pub mostSamples : ℕ
+mostSamples = 1048576
+
+-- the most parts of a stitched function, and how deep stitched functions nest
+abbrev pub mostParts : ℕ
+mostParts = 32
+
+abbrev pub mostDepth : ℕ
+mostDepth = 8

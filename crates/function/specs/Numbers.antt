@@ -17,7 +17,7 @@ bodyNumbers (exponential c0 c1 n) = c0 ++ (c1 ++ (n ∷ []))
 abbrev pub numbersOf : Function → List Float
 numbersOf f = flat (f .domain) ++ (flat (f .range) ++ bodyNumbers (f .body))
 
--- the entries that are needed, or the fault
-abbrev pub judged : Option Fault → ℕ → Result ℕ Fault
+-- what is needed, or the fault
+abbrev pub judged : {A : Type 0} → Option Fault → A → Result A Fault
 judged None needed = Ok needed
 judged (Some e) needed = Err e

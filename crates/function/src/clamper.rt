@@ -5,7 +5,7 @@ ghost use mathlib.Core.Path.{_≡_};
 ghost use lib.ListN.{take};
 ghost use Rattle.numeric.specs.Interval.{clampAll};
 ghost use Rattle.numeric.specs.Lists.{pairsOf};
-ghost use Rattle.function.specs.Evaluate.{first};
+ghost use Rattle.function.specs.Answer.{first};
 ghost use Rattle.function.specs.Outputs.{over};
 
 // The first input, clamped to its Domain pair where there is one; a NaN where there is no input.

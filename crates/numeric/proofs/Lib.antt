@@ -1,3 +1,5 @@
+pub mod Appending
+pub mod Comparing
 pub mod Every
 pub mod Flat
 pub mod Inside

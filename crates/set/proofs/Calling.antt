@@ -17,8 +17,9 @@ use Rattle.fault.specs.declared.cause.Fault.{Fault}
 use Rattle.fault.specs.declared.cause.Cause.the-variants.{NoFunction, InputCount, OutputList}
 use Rattle.numeric.specs.Interval.{Interval, clampAll}
 use Rattle.numeric.proofs.Ranges.{length-clampAll}
-use Rattle.function.specs.Evaluate.{compute, clampOutputs, run, first}
-use Rattle.function.specs.Exponential.{Meaning, countsFit, factor, mixed}
+use Rattle.function.specs.Answer.{Meaning, first}
+use Rattle.function.specs.Evaluate.{compute, clampOutputs, run}
+use Rattle.function.specs.Exponential.{countsFit, factor, mixed}
 use Rattle.function.specs.Function.{Function, Body, exponential}
 use Rattle.function.specs.Limits.{fromOneTo, mostOutputs, fullList}
 use Rattle.function.specs.declared.record.Record.{Record}

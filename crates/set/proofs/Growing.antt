@@ -18,7 +18,7 @@ use Rattle.function.specs.declared.record.Kind.{Kind}
 use Rattle.function.specs.declared.record.Kind.the-variants.{Exponential}
 use Rattle.function.specs.declared.record.Record.{Record}
 use Rattle.set.specs.View.{between, bodyAt, functionAt, functionsIn, kindOf, recordOf, kindPlaced, placed}
-use Rattle.set.proofs.Appending.{take-laid}
+use Rattle.numeric.proofs.Appending.{take-laid}
 use Rattle.set.proofs.Between.{between-front, between-mid}
 use Rattle.set.proofs.Reading.{rising, exponential-places}
 

@@ -1,4 +1,3 @@
-pub mod Appending
 pub mod Between
 pub mod Calling
 pub mod Growing

@@ -29,7 +29,7 @@ use Rattle.set.specs.Steps.{Done, admitted, functionChecks, hasRoom, left, loa
 use Rattle.set.specs.View.{functionsIn, placed, recordOf}
 use Rattle.set.specs.declared.memory.Memory.{Memory}
 use Rattle.set.specs.declared.set.Set.{Set}
-use Rattle.set.proofs.Appending.{laid-length}
+use Rattle.numeric.proofs.Appending.{laid-length}
 use Rattle.set.proofs.Growing.{functions-grown, placed-grown, record-end}
 use Rattle.set.proofs.Reading.{functionsOf, count-is, admitted-more}
 

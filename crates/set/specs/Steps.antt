@@ -13,8 +13,9 @@ use Rattle.fault.specs.Checks.{Check, check, fault, firstFault, passes}
 use Rattle.fault.specs.declared.cause.Cause.the-variants.{SetList, Room, NoFunction, InputCount, OutputList}
 use Rattle.fault.specs.declared.cause.Fault.{Fault}
 use Rattle.numeric.specs.Interval.{Interval}
-use Rattle.function.specs.Evaluate.{Answer, countsOf, run}
-use Rattle.function.specs.Exponential.{Meaning, exponentialChecks}
+use Rattle.function.specs.Answer.{Answer, Meaning, countsOf}
+use Rattle.function.specs.Evaluate.{run}
+use Rattle.function.specs.Exponential.{exponentialChecks}
 use Rattle.function.specs.Function.{Function, Body, exponential}
 use Rattle.function.specs.Limits.{fromOneTo, fullList}
 use Rattle.function.specs.Numbers.{numbersOf}

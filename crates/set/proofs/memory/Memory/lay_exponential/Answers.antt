@@ -11,7 +11,7 @@ use Rattle.function.specs.Exponential.{c0Of, c1Of, exponentialOf}
 use Rattle.function.specs.Numbers.{numbersOf}
 use Rattle.function.specs.declared.record.Kind.the-variants.{Exponential}
 use Rattle.set.specs.View.{recordOf}
-use Rattle.set.proofs.Appending.{LaidUp, laid-first, laid-next}
+use Rattle.numeric.proofs.Appending.{LaidUp, laid-first, laid-next}
 use Rattle.set.proofs.memory.Memory.lay_exponential.Needs as need
 
 pub returns : need.returns

@@ -10,7 +10,8 @@ use Rattle.std.specs.declared.result.Result.{Result}
 use Rattle.std.specs.declared.result.Result.the-variants.{Ok, Err}
 use Rattle.fault.specs.declared.cause.Fault.{Fault}
 use Rattle.function.specs.contracts.record.Kind.{enum}
-use Rattle.function.specs.Evaluate.{Answer, countsOf, run}
+use Rattle.function.specs.Answer.{Answer, countsOf}
+use Rattle.function.specs.Evaluate.{run}
 use Rattle.function.specs.Exponential.{stored}
 use Rattle.function.specs.Function.{Function}
 use Rattle.function.specs.Outputs.{over}

@@ -1,14 +1,14 @@
 -- One stretch of numbers laid behind another. Assumes nothing.
-use mathlib.Core.Path.{_≡_, refl, sym, ap, _∙_}
-use mathlib.Core.List.{List, [], _∷_, _++_}
+use mathlib.Core.Path.{_≡_, sym, ap, _∙_}
+use mathlib.Core.List.{List, _++_}
 use mathlib.Core.Bool.{true}
-use Prim.Native.Nat.{ℕ, _+_, _-_, _≤_, _<_}
+use Prim.Native.Nat.{ℕ, _+_, _-_, _≤_}
 use native.Mathlib.Omega.{arith}
 use lib.ListN.{length, take, drop}
 use Rattle.std.proofs.shelf.Lists.{append-assoc, length-append, length-take-le, length-drop, drop-drop, take-at, drop-at}
 use Rattle.std.proofs.shelf.Tests.{cond-true}
 use Rattle.numeric.specs.Lists.{fits, written, laid, behind, Lays}
 use Rattle.numeric.proofs.Laying.{fits-from}
 
 module _ {A : Type 0} where
   pub fits-sum : (list : List A) (at : ℕ) (xs : List A) → at + length xs ≤ length list → fits list at xs ≡ true

@@ -1,0 +1,6 @@
+pub mod Choosing
+pub mod Nesting
+pub mod Rising
+pub mod Single
+pub mod Storing
+pub mod Widening
