@@ -16,7 +16,7 @@ use Rattle.fault.specs.Checks.{Check, check, fault}
 use Rattle.fault.specs.declared.cause.Cause.the-variants.{Count, NotFinite, UpsideDown, CountsDisagree, Size, NoTable, NoSample}
 use Rattle.fault.specs.declared.cause.Fault.{Fault}
 use Rattle.numeric.specs.Interval.{Interval, bothFinite, rises, clampAll, interpolate}
-use Rattle.numeric.specs.Lists.{every}
+use Rattle.numeric.specs.Lists.{every, flat, pairsOf}
 use Rattle.numeric.specs.Whole.{cutUnsigned, nearestTo}
 use Rattle.units.specs.Samples.{Table, bitsOf, widthIn, sampleIn}
 use Rattle.units.specs.declared.samples.Width.{Width}
@@ -58,18 +58,46 @@ samplesNeeded (size ∷ sizes) outputs = size * samplesNeeded sizes outputs
 abbrev pub sizesFit : List ℕ → ℕ → Bool
 sizesFit sizes outputs = every (fromOneTo mostSize) sizes && leb (samplesNeeded sizes outputs) mostSamples
 
+abbrev pub gridCounts : List Interval → List ℕ → List Interval → Bool
+gridCounts domain sizes range = fromOneTo mostInputs (length domain) && (fromOneTo mostInputs (length sizes) && fromOneTo mostOutputs (length range))
+
+abbrev pub gridFinite : List Interval → List Interval → List Interval → List Interval → Bool
+gridFinite domain range encode decode = every bothFinite domain && (every bothFinite range && (every bothFinite encode && every bothFinite decode))
+
+-- a Size and an Encode pair for each input, a Decode pair for each output
+abbrev pub gridAgrees : List Interval → List Interval → List ℕ → List Interval → List Interval → Bool
+gridAgrees domain range sizes encode decode = eqb (length sizes) (length domain) && (eqb (length encode) (length domain) && eqb (length decode) (length range))
+
 abbrev pub sampledChecks : ℕ → List Interval → List Interval → List ℕ → List Interval → List Interval → List Check
 sampledChecks index domain range sizes encode decode =
-    check (fromOneTo mostInputs (length domain) && (fromOneTo mostInputs (length sizes) && fromOneTo mostOutputs (length range))) (fault Count index)
-    ∷ check (every bothFinite domain && (every bothFinite range && (every bothFinite encode && every bothFinite decode))) (fault NotFinite index)
+    check (gridCounts domain sizes range) (fault Count index)
+    ∷ check (gridFinite domain range encode decode) (fault NotFinite index)
     ∷ check (every rises domain && every rises range) (fault UpsideDown index)
-    ∷ check (eqb (length sizes) (length domain) && (eqb (length encode) (length domain) && eqb (length decode) (length range))) (fault CountsDisagree index)
+    ∷ check (gridAgrees domain range sizes encode decode) (fault CountsDisagree index)
     ∷ check (sizesFit sizes (length range)) (fault Size index)
     ∷ []
 
 -- the table is in the unit
 abbrev pub tableCheck : List Table → ℕ → ℕ → Check
 tableCheck tables index table = check (isSome (widthIn tables table)) (fault NoTable index)
+
+-- ---- the numbers that it is stored as, behind its Domain and Range
+
+abbrev pub sizeNumbers : List ℕ → List Float
+sizeNumbers sizes = map (λ size. nearestTo (pos size)) sizes
+
+abbrev pub ownNumbers : List ℕ → List Interval → List Interval → List Float
+ownNumbers sizes encode decode = sizeNumbers sizes ++ (flat encode ++ flat decode)
+
+-- a pair takes two entries, a Size one
+abbrev pub entriesOf : List Interval → List Interval → List ℕ → List Interval → List Interval → ℕ
+entriesOf domain range sizes encode decode = 2 * length domain + 2 * length range + length sizes + 2 * length encode + 2 * length decode
+
+abbrev pub givenChecks : ℕ → Sampled → List Check
+givenChecks index e = sampledChecks index (now (e .domain)) (now (e .range)) (now (e .sizes)) (encodeOf e) (decodeOf e)
+
+abbrev pub givenEntries : Sampled → ℕ
+givenEntries e = entriesOf (now (e .domain)) (now (e .range)) (now (e .sizes)) (encodeOf e) (decodeOf e)
 
 -- ---- what is computed
 
