@@ -1,4 +1,5 @@
 // The Sizes of a grid.
+use numeric::cut_u32;
 use numeric::nearest_u32;
 ghost use mathlib.Core.Path.{_≡_};
 ghost use Prim.Native.Nat.{_-_};
@@ -7,7 +8,8 @@ ghost use Rattle.numeric.specs.Interval.{bothFinite};
 ghost use Rattle.numeric.specs.Lists.{every};
 ghost use Rattle.numeric.specs.Whole.{nearestTo};
 ghost use Rattle.function.specs.Limits.{fromOneTo, mostSize};
-ghost use Rattle.sampled.specs.Sampled.{sizesFit, wholeGrid};
+ghost use Rattle.function.specs.Outputs.{over};
+ghost use Rattle.sampled.specs.Sampled.{sizesFit, sizesIn, wholeGrid};
 
 const MAX_SIZE: u32 = 65_535;
 
@@ -31,6 +33,16 @@ pub(crate) fn sizes_fit(sizes: &[u32], outputs: usize) -> bool
         samples *= *size as usize;
     }
     samples <= MAX_SAMPLES
+}
+
+// Writes the Sizes, which are stored as floats, to the front of the list, as far as it goes.
+pub(crate) fn cut_sizes(numbers: &[f32], into: &mut [u32])
+    ensures { λ _. ⌜ now (into .exit) ≡ over (sizesIn (now (numbers .entry))) (now (into .entry)) ⌝ }
+{
+    let count = numbers.len().min(into.len());
+    for i in 0..count {
+        into[i] = cut_u32(numbers[i]);
+    }
 }
 
 // The last grid point of a dimension.

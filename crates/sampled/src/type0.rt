@@ -23,9 +23,9 @@ ghost use Rattle.function.specs.Limits.{fromOneTo, mostInputs, mostOutputs};
 ghost use Rattle.function.specs.Numbers.{judged};
 ghost use Rattle.sampled.specs.Sampled.{encodeOf, decodeOf, gridCounts, gridFinite, gridAgrees, givenChecks, givenEntries, sizeNumbers};
 
-const MAX_INPUTS: usize = 4;
+pub(crate) const MAX_INPUTS: usize = 4;
 
-const MAX_OUTPUTS: usize = 32;
+pub(crate) const MAX_OUTPUTS: usize = 32;
 
 // What a caller gives of a sampled function: Encode and Decode where they are not the whole grid and the Range.
 #[derive(Clone, Copy)]
@@ -160,13 +160,13 @@ impl<'c> Sampled<'c> {
     }
 }
 
-fn is_input_count(n: usize) -> bool
+pub(crate) fn is_input_count(n: usize) -> bool
     ensures { λ r. ⌜ r ≡ fromOneTo mostInputs n ⌝ }
 {
     0 < n && n <= MAX_INPUTS
 }
 
-fn is_output_count(n: usize) -> bool
+pub(crate) fn is_output_count(n: usize) -> bool
     ensures { λ r. ⌜ r ≡ fromOneTo mostOutputs n ⌝ }
 {
     0 < n && n <= MAX_OUTPUTS
@@ -177,4 +177,15 @@ fn is_output_count(n: usize) -> bool
 pub struct Corner {
     pub weight: f32,
     pub offset: usize,
+}
+
+// A loaded sampled function: its parts of the number list.
+#[derive(Clone, Copy)]
+pub struct Type0<'a> {
+    pub domain: &'a [f32],
+    pub range: &'a [f32],
+    pub sizes: &'a [f32],
+    pub encode: &'a [f32],
+    pub decode: &'a [f32],
+    pub table: usize,
 }
