@@ -6,3 +6,4 @@ pub mod Fitting
 pub mod Grids
 pub mod Keying
 pub mod Spreading
+pub mod Storing
