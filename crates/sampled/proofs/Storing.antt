@@ -99,12 +99,12 @@ module _ (index : ℕ) (domain range : List Interval) (sizes : List ℕ) (encode
       let b = and-parts (eqb (length encode) (length domain)) (eqb (length decode) (length range)) (a .1) in
       let same : length range ≡ length decode = sym checks-decode in
       subst (λ (m : ℕ). evaluable domain sizes encode decode m ≡ true) (sym e) (
-          and-from _ (sizesFit sizes (length decode)) (
-              and-from (fromOneTo mostInputs (length domain)) _ (i .0)
-              (and-from (eqb (length domain) (length domain)) _ (eq-eqb (length domain) (length domain) refl)
-              (and-from (eqb (length sizes) (length domain)) _ (a .0)
-              (and-from (eqb (length encode) (length domain)) (fromOneTo mostOutputs (length decode)) (b .0) (subst (λ (m : ℕ). fromOneTo mostOutputs m ≡ true) same (o .1))))))
-          (subst (λ (m : ℕ). sizesFit sizes m ≡ true) same (all .2)))
+      and-from _ (sizesFit sizes (length decode)) (
+      and-from (fromOneTo mostInputs (length domain)) _ (i .0)
+      (and-from (eqb (length domain) (length domain)) _ (eq-eqb (length domain) (length domain) refl)
+      (and-from (eqb (length sizes) (length domain)) _ (a .0)
+      (and-from (eqb (length encode) (length domain)) (fromOneTo mostOutputs (length decode)) (b .0) (subst (λ (m : ℕ). fromOneTo mostOutputs m ≡ true) same (o .1))))))
+      (subst (λ (m : ℕ). sizesFit sizes m ≡ true) same (all .2)))
 
   -- a loaded one whose parts of the number list are those numbers answers as the function that was given
   pub loaded-is : (tables : List Table) (place : ℕ) (t : Type0) (xs : List Float) → now (t .domain) ≡ flat domain → now (t .range) ≡ flat range → now (t .sizes) ≡ sizeNumbers sizes → now (t .encode) ≡ flat encode → now (t .decode) ≡ flat decode
