@@ -1,13 +1,15 @@
 -- Sampled functions (type 0): what a caller gives, what is checked, and what they compute. Assumes nothing.
 use denote.Ref.{RefT, now}
-use mathlib.Core.Bool.{Bool, _&&_, _||_, cond}
+use mathlib.Core.Path.{_≡_}
+use mathlib.Core.Bool.{Bool, true, false, _&&_, _||_, cond}
 use mathlib.Core.List.{List, [], _∷_, _++_, map}
-use Prim.Native.Nat.{ℕ, suc, _+_, _-_, _*_, _^_}
+use Prim.Native.Nat.{ℕ, suc, _+_, _-_, _*_, _^_, _<_}
 use lib.Dec.{eqb, leb}
 use lib.IntN.{pos}
 use lib.Ieee.{Float, binary32, add, sub, mul, lt, eq, isNan, ofBits}
-use lib.ListN.{length, replicate}
+use lib.ListN.{length, take, replicate}
 use Rattle.std.specs.Options.{isSome}
+use Rattle.std.specs.shelf.Lists.{All}
 use Rattle.std.specs.declared.option.Option.{Option}
 use Rattle.std.specs.declared.option.Option.the-variants.{Some, None}
 use Rattle.std.specs.declared.result.Result.{Result}
@@ -16,14 +18,17 @@ use Rattle.fault.specs.Checks.{Check, check, fault}
 use Rattle.fault.specs.declared.cause.Cause.the-variants.{Count, NotFinite, UpsideDown, CountsDisagree, Size, NoTable, NoSample}
 use Rattle.fault.specs.declared.cause.Fault.{Fault}
 use Rattle.numeric.specs.Interval.{Interval, bothFinite, rises, clampAll, interpolate}
-use Rattle.numeric.specs.Lists.{every}
+use Rattle.numeric.specs.Lists.{every, flat, pairsOf}
 use Rattle.numeric.specs.Whole.{cutUnsigned, nearestTo}
 use Rattle.units.specs.Samples.{Table, bitsOf, widthIn, sampleIn}
 use Rattle.units.specs.declared.samples.Width.{Width}
 use Rattle.function.specs.Answer.{Answer}
+use Rattle.function.specs.Evaluate.{clampOutputs}
 use Rattle.function.specs.Limits.{fromOneTo, mostOutputs, mostInputs, mostSize, mostSamples}
+use Rattle.function.specs.Outputs.{over}
 use Rattle.sampled.specs.declared.type0.Corner.{Corner}
 use Rattle.sampled.specs.declared.type0.Sampled.{Sampled}
+use Rattle.sampled.specs.declared.type0.Type0.{Type0}
 
 abbrev pub zero : Float
 zero = ofBits binary32 0
@@ -58,18 +63,46 @@ samplesNeeded (size ∷ sizes) outputs = size * samplesNeeded sizes outputs
 abbrev pub sizesFit : List ℕ → ℕ → Bool
 sizesFit sizes outputs = every (fromOneTo mostSize) sizes && leb (samplesNeeded sizes outputs) mostSamples
 
+abbrev pub gridCounts : List Interval → List ℕ → List Interval → Bool
+gridCounts domain sizes range = fromOneTo mostInputs (length domain) && (fromOneTo mostInputs (length sizes) && fromOneTo mostOutputs (length range))
+
+abbrev pub gridFinite : List Interval → List Interval → List Interval → List Interval → Bool
+gridFinite domain range encode decode = every bothFinite domain && (every bothFinite range && (every bothFinite encode && every bothFinite decode))
+
+-- a Size and an Encode pair for each input, a Decode pair for each output
+abbrev pub gridAgrees : List Interval → List Interval → List ℕ → List Interval → List Interval → Bool
+gridAgrees domain range sizes encode decode = eqb (length sizes) (length domain) && (eqb (length encode) (length domain) && eqb (length decode) (length range))
+
 abbrev pub sampledChecks : ℕ → List Interval → List Interval → List ℕ → List Interval → List Interval → List Check
 sampledChecks index domain range sizes encode decode =
-    check (fromOneTo mostInputs (length domain) && (fromOneTo mostInputs (length sizes) && fromOneTo mostOutputs (length range))) (fault Count index)
-    ∷ check (every bothFinite domain && (every bothFinite range && (every bothFinite encode && every bothFinite decode))) (fault NotFinite index)
+    check (gridCounts domain sizes range) (fault Count index)
+    ∷ check (gridFinite domain range encode decode) (fault NotFinite index)
     ∷ check (every rises domain && every rises range) (fault UpsideDown index)
-    ∷ check (eqb (length sizes) (length domain) && (eqb (length encode) (length domain) && eqb (length decode) (length range))) (fault CountsDisagree index)
+    ∷ check (gridAgrees domain range sizes encode decode) (fault CountsDisagree index)
     ∷ check (sizesFit sizes (length range)) (fault Size index)
     ∷ []
 
 -- the table is in the unit
 abbrev pub tableCheck : List Table → ℕ → ℕ → Check
 tableCheck tables index table = check (isSome (widthIn tables table)) (fault NoTable index)
+
+-- ---- the numbers that it is stored as, behind its Domain and Range
+
+abbrev pub sizeNumbers : List ℕ → List Float
+sizeNumbers sizes = map (λ size. nearestTo (pos size)) sizes
+
+abbrev pub ownNumbers : List ℕ → List Interval → List Interval → List Float
+ownNumbers sizes encode decode = sizeNumbers sizes ++ (flat encode ++ flat decode)
+
+-- a pair takes two entries, a Size one
+abbrev pub entriesOf : List Interval → List Interval → List ℕ → List Interval → List Interval → ℕ
+entriesOf domain range sizes encode decode = 2 * length domain + 2 * length range + length sizes + 2 * length encode + 2 * length decode
+
+abbrev pub givenChecks : ℕ → Sampled → List Check
+givenChecks index e = sampledChecks index (now (e .domain)) (now (e .range)) (now (e .sizes)) (encodeOf e) (decodeOf e)
+
+abbrev pub givenEntries : Sampled → ℕ
+givenEntries e = entriesOf (now (e .domain)) (now (e .range)) (now (e .sizes)) (encodeOf e) (decodeOf e)
 
 -- ---- what is computed
 
@@ -124,6 +157,9 @@ cornersFrom (k ∷ ks) (size ∷ sizes) stride cs = cornersFrom ks sizes (stride
 abbrev pub corners : List Float → List ℕ → ℕ → List Corner
 corners ks sizes outputs = cornersFrom ks sizes outputs (corner one 0 ∷ [])
 
+abbrev pub cornersAt : List Interval → List ℕ → List Interval → ℕ → List Float → List Corner
+cornersAt domain sizes encode outputs xs = corners (keys domain encode sizes xs) sizes outputs
+
 -- the sums after one more corner, or the index of the first sample that the table lacks
 abbrev pub addBy : Option ℕ → Float → Float → ℕ → Result (List Float) ℕ → Result (List Float) ℕ
 addBy None weight y at rest = Err at
@@ -161,5 +197,52 @@ sampledBy index top decode visited (Err place) = Err (record { cause = NoSample;
 -- what a sampled function makes of its clamped inputs, Range not yet applied: one step, and one for each corner
 abbrev pub sampledAnswer : List Table → ℕ → List Interval → List ℕ → List Interval → List Interval → ℕ → List Float → Result Answer Fault
 sampledAnswer tables index domain sizes encode decode table xs =
-    let cs = corners (keys domain encode sizes xs) sizes (length decode) in
+    let cs = cornersAt domain sizes encode (length decode) xs in
     sampledBy index (topOf (widthIn tables table)) decode (length cs) (addCorners tables table cs (replicate (length decode) zero))
+
+-- ---- a loaded one, by its parts of the number list
+
+abbrev pub sizesIn : List Float → List ℕ
+sizesIn numbers = map (cutUnsigned 32) numbers
+
+abbrev pub shapeFits : List Interval → List ℕ → List Interval → List Interval → ℕ → Bool
+shapeFits domain sizes encode decode inputs =
+    fromOneTo mostInputs inputs && (eqb (length domain) inputs && (eqb (length sizes) inputs && (eqb (length encode) inputs && fromOneTo mostOutputs (length decode))))
+
+-- so many inputs can be computed with: what loading tests, as far as computing needs it
+abbrev pub evaluable : List Interval → List ℕ → List Interval → List Interval → ℕ → Bool
+evaluable domain sizes encode decode inputs = shapeFits domain sizes encode decode inputs && sizesFit sizes (length decode)
+
+abbrev pub ranged : List Interval → Result Answer Fault → Result Answer Fault
+ranged range (Ok a) = Ok (clampOutputs range a)
+ranged range (Err e) = Err e
+
+abbrev pub evaluableBy : Type0 → ℕ → Bool
+evaluableBy t inputs = evaluable (pairsOf (now (t .domain))) (sizesIn (now (t .sizes))) (pairsOf (now (t .encode))) (pairsOf (now (t .decode))) inputs
+
+abbrev pub loadedAnswer : List Table → ℕ → Type0 → List Float → Result Answer Fault
+loadedAnswer tables index t xs =
+    let domain = pairsOf (now (t .domain)) in
+    cond (evaluableBy t (length xs))
+    (ranged (pairsOf (now (t .range))) (sampledAnswer tables index domain (sizesIn (now (t .sizes))) (pairsOf (now (t .encode))) (pairsOf (now (t .decode))) (t .table) (clampAll domain xs)))
+    (Err (fault Size index))
+
+-- a refusal writes nothing
+abbrev pub outputsAfter : Result Answer Fault → List Float → List Float
+outputsAfter (Ok a) old = over (a .outputs) old
+outputsAfter (Err e) old = old
+
+-- ---- what the parts of an evaluation answer
+
+-- its Sizes, where it can be computed
+abbrev pub OwnSizes : Type0 → ℕ → Option (List ℕ) → Type 0
+OwnSizes t inputs (Some sizes) = (evaluableBy t inputs ≡ true) × (take inputs sizes ≡ sizesIn (now (t .sizes)))
+OwnSizes t inputs None = evaluableBy t inputs ≡ false
+
+abbrev pub OffsetsBelow : ℕ → List Corner → Type 0
+OffsetsBelow n cs = All (λ c. c .offset < n) cs
+
+-- what a sum over corners answers, with what the list of sums holds then
+abbrev pub Summed : {A : Type 0} → Result (List Float) ℕ → Result A ℕ → List Float → Type 0
+Summed sums (Ok a) new = sums ≡ Ok new
+Summed sums (Err place) new = sums ≡ Err place
