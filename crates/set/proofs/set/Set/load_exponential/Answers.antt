@@ -1,7 +1,7 @@
 use mathlib.Core.Path.{_≡_, _∙_}
 use Rattle.std.proofs.shelf.Results.{err-from-errBy}
 use Rattle.function.specs.Exponential.{exponentialOf}
-use Rattle.set.proofs.Appending.{laid-is}
+use Rattle.numeric.proofs.Appending.{laid-is}
 use Rattle.set.proofs.Loading.{refused, room, new-records, still, new-model, new-index}
 use Rattle.set.proofs.set.Set.load_exponential.Needs as need
 
