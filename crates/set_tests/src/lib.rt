@@ -131,6 +131,34 @@ mod tests {
         check(is_fault(refusal(&given), Cause::UpsideDown, 1))
     }
 
+    #[test]
+    fn every_number_is_finite() -> Result<(), Fail> {
+        let odd = [f32::NAN];
+        let pairs = [(0.0, f32::INFINITY)];
+        let mut given = plain(&UNIT, 1.0);
+        given.range = &pairs[0..1];
+        check(is_fault(refusal(&given), Cause::NotFinite, 1))?;
+        given.range = &pairs[0..0];
+        given.c0 = Some(&odd[0..1]);
+        check(is_fault(refusal(&given), Cause::NotFinite, 1))?;
+        given.c0 = None;
+        given.c1 = Some(&odd[0..1]);
+        check(is_fault(refusal(&given), Cause::NotFinite, 1))
+    }
+
+    #[test]
+    fn the_function_list_runs_out() -> Result<(), Fail> {
+        let mut records = [Record::EMPTY; 1];
+        let mut numbers = [0.0f32; 64];
+        let mut words = [Instruction::EMPTY; 1];
+        let Ok(memory) = Memory::open(&mut records, &mut numbers, &mut words) else {
+            return Err(Fail::new("refused"));
+        };
+        let mut set = Set::over(memory);
+        check(load(&mut set, &plain(&UNIT, 1.0)).is_none())?;
+        check(is_fault(load(&mut set, &plain(&UNIT, 1.0)), Cause::Room, 1))
+    }
+
     // A set of one function, evaluated on one input, with what its output list then holds first and second.
     fn answer(given: &Exponential, x: f32, room: usize) -> (Result<Counts, Fault>, f32, f32) {
         let mut records = [Record::EMPTY; 1];
