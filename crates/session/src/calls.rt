@@ -13,7 +13,7 @@ use units::Question;
 const MAX_ROOM: usize = 1024;
 
 // A call while no set is open.
-pub fn perform_without_set<A: Arithmetic>(unit: &mut A, command: &Command) -> Reply {
+pub(crate) fn perform_without_set<A: Arithmetic>(unit: &mut A, command: &Command) -> Reply {
     match command {
         Command::House => Reply::Unit,
         Command::Ask { code, x, y } => ask(unit, *code, *x, *y),
@@ -25,7 +25,7 @@ pub fn perform_without_set<A: Arithmetic>(unit: &mut A, command: &Command) -> Re
 }
 
 // A call that goes to the open set, or needs none.
-pub fn perform<A: Arithmetic>(
+pub(crate) fn perform<A: Arithmetic>(
     heap: Global,
     set: &mut Set,
     unit: &mut A,

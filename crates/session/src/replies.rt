@@ -8,7 +8,7 @@ use std::alloc::AllocError;
 use std::alloc::Global;
 
 #[derive(Drop)]
-pub enum Reply {
+pub(crate) enum Reply {
     Opened,
     Reset,
     Unit,
@@ -22,7 +22,7 @@ pub enum Reply {
 
 impl Reply {
     // Bits first, and in brackets what a person reads.
-    pub fn text(&self, heap: Global) -> Result<String, AllocError> {
+    pub(crate) fn text(&self, heap: Global) -> Result<String, AllocError> {
         match self {
             Reply::Opened => String::from_str(heap, "opened"),
             Reply::Reset => String::from_str(heap, "reset"),
