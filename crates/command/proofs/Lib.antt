@@ -1,2 +1,6 @@
+mod Cuts
+mod Listing
 mod Loading
+mod Naming
+mod Pairing
 mod Silence

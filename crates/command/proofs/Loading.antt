@@ -1,17 +1,23 @@
 -- The fields of a load line, read one by one. Assumes nothing.
-use Rattle.std.proofs.Common.{ℕ, List, Some, None}
-use Rattle.words.specs.Cutting.{AtField}
-use Rattle.command.specs.Loads.{Fields, no_more, one_more}
+use Rattle.std.proofs.Common.{◌≡◌, ℕ, List, IfOk, Some, None, Ok, Err, Result, sym, subst}
+use Rattle.command.specs.declared.exponential.Draft.{Draft}
+use Rattle.command.specs.declared.exponential.ExponentialLine.{ExponentialLine}
+use Rattle.command.specs.Cutting.{AtField}
+use Rattle.command.specs.Loads.{Fields, no_more, one_more, Filled, Finished, Loads, blank_draft}
 
--- from the start to s the fields took the draft from the first to d
-pub record Goes {D : Type 0} (F : List ℕ → D → D → List ℕ → List ℕ → Type 0) (first : D) (start s : List ℕ) (d : D) : Type 0 where
-  pub on : (e : D) (t : List ℕ) → Fields F d e s t → Fields F first e start t
+-- from the start to s the fields took the draft to d
+pub record Goes (start s : List ℕ) (d : Draft) : Type 0 where
+  pub on : (e : Draft) (t : List ℕ) → Fields d e s t → Fields blank_draft e start t
 
-pub goes_start : {D : Type 0} (F : List ℕ → D → D → List ℕ → List ℕ → Type 0) (d : D) (s : List ℕ) → Goes F d s s d
-goes_start F d s = record { on = λ e t h. h }
+pub goes_start : (s : List ℕ) → Goes s s blank_draft
+goes_start s = record { on = λ e t h. h }
 
-pub goes_more : {D : Type 0} (F : List ℕ → D → D → List ℕ → List ℕ → Type 0) (u v name : List ℕ) (e : D) {first d : D} {start s : List ℕ} → Goes F first start s d → AtField s (Some name) u → F name d e u v → Goes F first start v e
-goes_more F u v name e g at f = record { on = λ e t h. g.on e t (one_more at f h) }
+pub goes_more : {start s u v name : List ℕ} {d e : Draft} → Goes start s d → AtField s (Some name) u → Filled name d e u v → Goes start v e
+goes_more g at f = record { on = λ e t h. g.on e t (one_more at f h) }
 
-pub goes_end : {D : Type 0} (F : List ℕ → D → D → List ℕ → List ℕ → Type 0) {first d : D} {start s t : List ℕ} → Goes F first start s d → AtField s None t → Fields F first d start t
-goes_end F g at = g.on _ _ (no_more at)
+pub made_then : {X E : Type 0} {P Q : X → Type 0} (r : Result X E) → ((x : X) → P x → Q x) → IfOk r P → IfOk r Q
+made_then (Ok x) f h = f x h
+made_then (Err e) f h = tt
+
+pub goes_end : {E : Type 0} {start s t : List ℕ} {d : Draft} (r : Result ExponentialLine E) → Goes start s d → AtField s None t → IfOk r (Finished d) → IfOk r (λ l. Loads l start t)
+goes_end r g at h = made_then r (λ l f. (_, g.on _ _ (no_more at), f)) h

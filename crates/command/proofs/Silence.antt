@@ -4,8 +4,8 @@ use mathlib.Core.List.{append_cancel_right}
 use borrow.Author.Tests.{clash}
 use Rattle.std.specs.Str.Pattern.{FindsCharPrefix}
 use Rattle.std.proofs.lemmas.Str.Pattern.{starts_char}
-use Rattle.words.specs.Cutting.{Unreturned, first_word}
-use Rattle.command.specs.Lines.{Silent}
+use Rattle.command.specs.Cutting.{first_word}
+use Rattle.command.specs.Lines.{Unreturned, Silent}
 
 same_line : (line s t : List ℕ) → Unreturned line s → Unreturned line t → s ≡ t
 same_line line s t (inl a) (inl b) = append_cancel_right s t (13 ∷ []) (sym a ∙ b)

@@ -1,6 +1,5 @@
-pub mod Answers
-pub mod Exponential
+pub mod Cutting
+pub mod Fields
+pub mod Left
 pub mod Lines
 pub mod Loads
-pub mod Sampled
-pub mod Stitched

@@ -1,11 +1,12 @@
 // The load line of an exponential function.
-ghost use Rattle.std.specs.Prelude.{IfOk};
-ghost use Rattle.words.specs.Left.{text};
-ghost use Rattle.command.specs.Exponential.{Filled, Finished, Loads};
+ghost use Rattle.std.specs.Prelude.{◌≤◌, IfOk, OnOk};
+ghost use Rattle.command.specs.Left.{text, left};
+ghost use Rattle.command.specs.Loads.{Filled, Finished, Loads};
 
-use crate::fields::{Draft, read_fields};
+use crate::lists;
+use crate::misread::{LineError, Misread};
+use crate::words::Words;
 use std::alloc::Global;
-use words::{LineError, Misread, Words, fill_list, fill_one, fill_pairs};
 
 #[derive(Debug, Drop)]
 pub struct ExponentialLine {
@@ -16,8 +17,9 @@ pub struct ExponentialLine {
     pub n: f32,
 }
 
+// The fields so far.
 #[derive(Drop)]
-struct ExponentialDraft {
+struct Draft {
     domain: Option<Vec<(f32, f32)>>,
     range: Option<Vec<(f32, f32)>>,
     c0: Option<Vec<f32>>,
@@ -25,23 +27,22 @@ struct ExponentialDraft {
     n: Option<f32>,
 }
 
-impl Draft for ExponentialDraft {
-    ghost filled = { Filled };
-
-    fn read_field<'a>(
-        &mut self,
-        heap: Global,
-        words: &mut Words<'a>,
-        name: &'a str,
-    ) -> Result<(), LineError<'a>> {
-        match name {
-            "domain" => fill_pairs(heap, &mut self.domain, words, name),
-            "range" => fill_pairs(heap, &mut self.range, words, name),
-            "c0" => fill_list(heap, &mut self.c0, words, name),
-            "c1" => fill_list(heap, &mut self.c1, words, name),
-            "n" => fill_one(&mut self.n, words, name),
-            _ => Err(LineError::new(Misread::UnknownField, name)),
-        }
+fn read_field<'a>(
+    heap: Global,
+    draft: &mut Draft,
+    words: &mut Words<'a>,
+    name: &'a str,
+) -> Result<(), LineError<'a>>
+    ensures value { OnOk result (Filled name.now draft.old draft.new (text words.old) (text words.new)) }
+    ensures shorter { left words.new ≤ left words.old }
+{
+    match name {
+        "domain" => lists::put(&mut draft.domain, lists::pairs(heap, words, name)?, name),
+        "range" => lists::put(&mut draft.range, lists::pairs(heap, words, name)?, name),
+        "c0" => lists::put(&mut draft.c0, lists::floats(heap, words)?, name),
+        "c1" => lists::put(&mut draft.c1, lists::floats(heap, words)?, name),
+        "n" => lists::put(&mut draft.n, lists::one_float(words)?, name),
+        _ => Err(LineError::new(Misread::UnknownField, name)),
     }
 }
 
@@ -49,23 +50,26 @@ pub(crate) fn read<'a>(
     heap: Global,
     words: &mut Words<'a>,
 ) -> Result<ExponentialLine, LineError<'a>>
-    ensures { IfOk result (λ l. Loads l (text words.old) (text words.new)) }
+    ensures value { IfOk result (λ l. Loads l (text words.old) (text words.new)) }
+    ensures shorter { left words.new ≤ left words.old }
 {
-    let mut draft = ExponentialDraft {
+    let mut draft = Draft {
         domain: None,
         range: None,
         c0: None,
         c1: None,
         n: None,
     };
-    read_fields(heap, &mut draft, words)?;
+    while let Some(name) = words.next_field() {
+        read_field(heap, &mut draft, words, name)?;
+    }
     finish(heap, draft)
 }
 
-fn finish(heap: Global, draft: ExponentialDraft) -> Result<ExponentialLine, LineError<'static>>
+fn finish(heap: Global, draft: Draft) -> Result<ExponentialLine, LineError<'static>>
     ensures { IfOk result (Finished draft) }
 {
-    let ExponentialDraft {
+    let Draft {
         domain,
         range,
         c0,

@@ -1,14 +1,11 @@
-// One line of a job read into a command.
-mod arithmetic;
+// One line of a job file read into a command.
 mod exponential;
-mod fields;
 mod line;
-mod sampled;
-mod samples;
-mod stitched;
+mod lists;
+mod misread;
+mod number;
+mod words;
 
-pub use arithmetic::Answer;
 pub use exponential::ExponentialLine;
 pub use line::{Command, read_line};
-pub use sampled::SampledLine;
-pub use stitched::StitchedLine;
+pub use misread::{LineError, Misread};

@@ -1,5 +1,5 @@
 -- What a list of checks that pass says of each. Assumes nothing.
-use Rattle.std.proofs.Common.{◌≡◌, ℕ, zero, suc, Bool, true, false, cond, ◌&&◌, List, [], ◌∷◌, ◌++◌, Some, None, Option, sym, refl, ap, ◌∙◌}
+use Rattle.std.proofs.Common.{◌≡◌, Bool, true, false, cond, ◌&&◌, List, [], ◌∷◌, ◌++◌, Some, None, Option, sym, refl, ap, ◌∙◌}
 use Rattle.std.proofs.lemmas.Bool.{cond-true, cond-false, and_from, and_parts}
 use Rattle.fault.specs.declared.cause.Fault.{Fault}
 use Rattle.fault.specs.Checks.{Check, first_fault, passes}
@@ -36,14 +36,3 @@ passes_front (c ∷ cs) ds p = let t = and_parts c.holds (passes (cs ++ ds)) p i
 pub passes_back : (cs ds : List Check) → passes (cs ++ ds) ≡ true → passes ds ≡ true
 passes_back [] ds p = p
 passes_back (c ∷ cs) ds p = passes_back cs ds (and_parts c.holds (passes (cs ++ ds)) p).1
-
--- the test of the check i; past the end there is none to fail
-abbrev pub holds_at : List Check → ℕ → Bool
-holds_at [] i = true
-holds_at (c ∷ cs) zero = c.holds
-holds_at (c ∷ cs) (suc i) = holds_at cs i
-
-pub passes_at : (cs : List Check) → passes cs ≡ true → (i : ℕ) → holds_at cs i ≡ true
-passes_at [] p i = refl
-passes_at (c ∷ cs) p zero = (and_parts c.holds (passes cs) p).0
-passes_at (c ∷ cs) p (suc i) = passes_at cs (and_parts c.holds (passes cs) p).1 i

@@ -36,12 +36,3 @@ judged_break cs ds d n e = sym (ap (λ (o : Option Fault). judged o n) (fault_ap
 
 pub judged_more : {A : Type 0} (cs ds : List Check) (k n : A) → Ok k ≡ judged (first_fault cs) n → first_fault (cs ++ ds) ≡ first_fault ds
 judged_more cs ds k n e = passes_append cs ds (none_passes cs (judged_ok (first_fault cs) k n e).0)
-
--- another part of what is needed
-pub judged_ok_part : {A B : Type 0} (g : A → B) (o : Option Fault) (k n : A) → Ok k ≡ judged o n → Ok (g k) ≡ judged o (g n)
-judged_ok_part {A = A} g None k n e = let z : k ≡ n = cc in ap (λ (x : A). Ok (g x)) z
-judged_ok_part g (Some d) k n e = let z : ◌≡◌ {A = ℕ} 0 1 = cc in absurd (omega arith)
-
-pub judged_err_part : {A B : Type 0} (o : Option Fault) (d : Fault) (n : A) (m : B) → Err d ≡ judged o n → Err d ≡ judged o m
-judged_err_part None d n m e = let z : ◌≡◌ {A = ℕ} 0 1 = cc in absurd (omega arith)
-judged_err_part (Some c) d n m e = let z : c ≡ d = cc in ap (λ (x : Fault). Err x) (sym z)

@@ -1,8 +1,7 @@
 -- What evaluating a function answers, and the units that it asks. Assumes nothing.
-use Rattle.std.specs.Prelude.{ℕ, List, ◌++◌, length, drop, Ok, Err, Result, slice_index_or, Float}
+use Rattle.std.specs.Prelude.{ℕ, List, length, Ok, Err, Result, slice_index_or, Float}
 use Rattle.std.specs.Float.{nan}
 use Rattle.fault.specs.declared.cause.Fault.{Fault}
-use Rattle.numeric.specs.Interval.{Interval, clamp_all}
 use Rattle.units.specs.declared.question.Question.{Question}
 use Rattle.units.specs.Samples.{Table}
 use Rattle.function.specs.declared.counts.Counts.{Counts}
@@ -33,16 +32,3 @@ counts_of a = record { outputs = length a.outputs; steps = a.steps; drops = a.dr
 abbrev pub reply_of : Result Answer Fault → Result Counts Fault
 reply_of (Ok a) = Ok (counts_of a)
 reply_of (Err e) = Err e
-
--- outputs are clamped to the Range
-abbrev pub clamp_outputs : List Interval → Answer → Answer
-clamp_outputs range a = record { outputs = clamp_all range a.outputs; steps = a.steps; drops = a.drops }
-
-abbrev pub ranged : List Interval → Result Answer Fault → Result Answer Fault
-ranged range (Ok a) = Ok (clamp_outputs range a)
-ranged range (Err e) = Err e
-
--- what the caller's list holds after: the outputs in front, the rest as it was
-abbrev pub written : Result Answer Fault → List Float → List Float
-written (Ok a) ys = a.outputs ++ drop (length a.outputs) ys
-written (Err e) ys = ys

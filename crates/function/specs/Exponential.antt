@@ -5,10 +5,10 @@ use Rattle.std.specs.Float.Ieee.{add, sub, mul, eq}
 use Rattle.std.specs.Float.{float_is_finite, binary32}
 use Rattle.fault.specs.Checks.{Check, check, fault}
 use Rattle.fault.specs.declared.cause.Cause.TheVariants.{Count, NotFinite, UpsideDown, CountsDisagree}
-use Rattle.numeric.specs.Interval.{Interval, both_finite, rises, clamp_all}
+use Rattle.numeric.specs.Interval.{Interval, both_finite, rises}
 use Rattle.numeric.specs.Lists.{every, pairs_of}
 use Rattle.units.specs.declared.question.Question.TheVariants.{Power}
-use Rattle.function.specs.Answer.{Meaning, Answer, first, clamp_outputs}
+use Rattle.function.specs.Answer.{Meaning}
 use Rattle.function.specs.Function.{Function, exponential}
 use Rattle.function.specs.Limits.{from_one_to, most_outputs}
 use Rattle.function.specs.declared.type2.Exponential.{Exponential}
@@ -75,11 +75,3 @@ abbrev pub mixed : Float → List Float → List Float → List Float
 mixed t [] bs = []
 mixed t (a ∷ xs) [] = []
 mixed t (a ∷ xs) (b ∷ ys) = add binary32 a (mul binary32 t (sub binary32 b a)) ∷ mixed t xs ys
-
--- what an exponential function makes of its clamped inputs, Range not yet applied; to enter a function is one step
-abbrev pub exponential_answer : Meaning → List Float → List Float → Float → List Float → Answer
-exponential_answer μ c0 c1 n xs = record { outputs = mixed (factor μ n (first xs)) c0 c1; steps = 1; drops = 0 }
-
--- what a loaded one answers: the input clamped to the Domain, the outputs to the Range
-abbrev pub stored_answer : Meaning → Type2 → List Float → Answer
-stored_answer μ t xs = clamp_outputs (pairs_of t.range.now) (exponential_answer μ t.c0.now t.c1.now t.n (clamp_all (pairs_of t.domain.now) xs))

@@ -1,4 +1,5 @@
 pub mod Answer
+pub mod Evaluate
 pub mod Exponential
 pub mod Function
 pub mod Limits

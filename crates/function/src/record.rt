@@ -10,22 +10,7 @@ pub enum Instruction {
 #[derive(Clone, Copy)]
 pub enum Kind {
     // C0 lies before `c1`, C1 before `n`, where N stands
-    Exponential {
-        c1: usize,
-        n: usize,
-    },
-    // the Sizes lie before `encode`, the Encode pairs before `decode`, then the Decode pairs
-    Sampled {
-        encode: usize,
-        decode: usize,
-        table: usize,
-    },
-    // the parts lie before `bounds`, the Bounds before `encode`, then the Encode pairs
-    Stitched {
-        bounds: usize,
-        encode: usize,
-        depth: usize,
-    },
+    Exponential { c1: usize, n: usize },
 }
 
 // A function's numbers lie together: the Domain pairs before `range`, the Range pairs before `own`, then what the kind has,

@@ -4,8 +4,9 @@ ghost use Rattle.std.specs.Float.{float_is_finite};
 ghost use Rattle.fault.specs.Checks.{first_fault};
 ghost use Rattle.numeric.specs.Interval.{both_finite, rises};
 ghost use Rattle.numeric.specs.Lists.{every};
-ghost use Rattle.function.specs.Exponential.{c0_of, c1_of, exponential_of, given_checks, counts_fit, all_finite, counts_agree, stored_answer, factor, mixed};
+ghost use Rattle.function.specs.Exponential.{c0_of, c1_of, exponential_of, given_checks, counts_fit, all_finite, counts_agree, stored, factor, mixed};
 ghost use Rattle.function.specs.Answer.{counts_of};
+ghost use Rattle.function.specs.Evaluate.{run};
 ghost use Rattle.function.specs.Limits.{from_one_to, most_outputs};
 ghost use Rattle.function.specs.Numbers.{judged, numbers_of};
 ghost use Rattle.function.specs.Outputs.{over};
@@ -121,8 +122,8 @@ pub struct Type2<'a> {
 impl Type2<'_> {
     // Writes the outputs for the first input to the front of the list, as far as it goes.
     pub fn eval<A: Arithmetic>(&self, unit: &mut A, inputs: &[f32], outputs: &mut [f32]) -> Counts
-        ensures counts { result ≡ counts_of (stored_answer (meaning unit.old) self.now inputs.now) }
-        ensures wrote { outputs.new ≡ over (stored_answer (meaning unit.old) self.now inputs.now).outputs outputs.old }
+        ensures counts { result ≡ counts_of (run (meaning unit.old) (stored self.now) inputs.now) }
+        ensures wrote { outputs.new ≡ over (run (meaning unit.old) (stored self.now) inputs.now).outputs outputs.old }
         ensures keeps { meaning unit.new ≡ meaning unit.old }
     {
         let x = clamp_first(self.domain, inputs);

@@ -7,8 +7,7 @@ use Rattle.numeric.specs.Lists.{flat, Lays}
 use Rattle.numeric.specs.Whole.{nearest_to}
 use Rattle.numeric.proofs.Flat.{length_flat}
 use Rattle.numeric.proofs.Laying.{fits_from, fits_not, put_whole, put_none, LaidTo, laid_none, laid_more, laid_all}
-use Rattle.function.specs.Numbers.{whole_numbers}
-use Rattle.sampled.specs.Sampled.{zero, whole_grid}
+use Rattle.sampled.specs.Sampled.{zero, whole_grid, size_numbers}
 use Rattle.sampled.proofs.Grids.{grid_length, grid_at}
 
 -- a loop that lays numbers has come to the number i, and to the place `end` of the list
@@ -43,25 +42,25 @@ module _ (list : List Float) (at : ℕ) (xs : List Float) where
 -- ---- the Sizes
 
 module _ (list : List Float) (at : ℕ) (sizes : List ℕ) where
-  long : length (whole_numbers sizes) ≡ length sizes
+  long : length (size_numbers sizes) ≡ length sizes
   long = length-map sizes (λ (s : ℕ). nearest_to (pos s))
 
-  pub sizes_short : (length list < at) ⊎ (length list - at < length sizes) → Lays list at (whole_numbers sizes) list at
-  sizes_short h = put_none list at (whole_numbers sizes) (fits_not list at (whole_numbers sizes) (subst (λ (n : ℕ). (length list < at) ⊎ (length list - at < n)) (sym long) h))
+  pub sizes_short : (length list < at) ⊎ (length list - at < length sizes) → Lays list at (size_numbers sizes) list at
+  sizes_short h = put_none list at (size_numbers sizes) (fits_not list at (size_numbers sizes) (subst (λ (n : ℕ). (length list < at) ⊎ (length list - at < n)) (sym long) h))
 
   abbrev pub SizesTo : List Float → ℕ → ℕ → Type 0
-  SizesTo new i end = NumbersTo list at (whole_numbers sizes) new i end
+  SizesTo new i end = NumbersTo list at (size_numbers sizes) new i end
 
   pub sizes_none : SizesTo list 0 at
-  sizes_none = numbers_none list at (whole_numbers sizes)
+  sizes_none = numbers_none list at (size_numbers sizes)
 
   pub sizes_more : (new : List Float) (i end : ℕ) (v : Float) → at + length sizes ≤ length list → i < length sizes → v ≡ nearest_to (pos (get_or sizes i 0)) → SizesTo new i end → SizesTo (set new end v) (i + 1) (end + 1)
   sizes_more new i end v room h e inv =
-      let same : get_or (whole_numbers sizes) i nan ≡ v = get_or-map (λ (s : ℕ). nearest_to (pos s)) sizes i 0 nan h ∙ sym e in
-      subst (λ (x : Float). SizesTo (set new end x) (i + 1) (end + 1)) same (numbers_more list at (whole_numbers sizes) new i end (omega (arith, long)) (omega (arith, long)) inv)
+      let same : get_or (size_numbers sizes) i nan ≡ v = get_or-map (λ (s : ℕ). nearest_to (pos s)) sizes i 0 nan h ∙ sym e in
+      subst (λ (x : Float). SizesTo (set new end x) (i + 1) (end + 1)) same (numbers_more list at (size_numbers sizes) new i end (omega (arith, long)) (omega (arith, long)) inv)
 
-  pub sizes_all : (new : List Float) (i end : ℕ) → at + length sizes ≤ length list → i ≤ length sizes → length sizes ≤ i → SizesTo new i end → Lays list at (whole_numbers sizes) new end
-  sizes_all new i end room h k inv = numbers_all list at (whole_numbers sizes) new i end (omega (arith, long)) (omega (arith, long)) (omega (arith, long)) inv
+  pub sizes_all : (new : List Float) (i end : ℕ) → at + length sizes ≤ length list → i ≤ length sizes → length sizes ≤ i → SizesTo new i end → Lays list at (size_numbers sizes) new end
+  sizes_all new i end room h k inv = numbers_all list at (size_numbers sizes) new i end (omega (arith, long)) (omega (arith, long)) (omega (arith, long)) inv
 
 -- ---- the pairs that they give
 

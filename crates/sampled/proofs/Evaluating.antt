@@ -10,7 +10,7 @@ use Rattle.numeric.specs.Interval.{Interval, clamp_all}
 use Rattle.numeric.specs.Lists.{pairs_of}
 use Rattle.numeric.proofs.Ranges.{length_clamp_all}
 use Rattle.units.specs.Samples.{Table, width_in}
-use Rattle.function.specs.Answer.{Answer, ranged, reply_of}
+use Rattle.function.specs.Answer.{Answer, reply_of}
 use Rattle.function.specs.Limits.{from_one_to, most_inputs, most_outputs}
 use Rattle.function.specs.Outputs.{over}
 use Rattle.function.specs.declared.counts.Counts.{Counts}
@@ -18,7 +18,7 @@ use Rattle.function.proofs.Clamping.{over_clamped}
 use Rattle.sampled.specs.declared.type0.Corner.{Corner}
 use Rattle.sampled.specs.declared.type0.Type0.{Type0}
 use Rattle.sampled.specs.Sampled as sampled
-use Rattle.sampled.specs.Sampled.{sizes_fit, sizes_in, shape_fits, evaluable_by, corners_at, corners, add_corners, top_of, decoded, sampled_by, loaded_answer, outputs_after}
+use Rattle.sampled.specs.Sampled.{sizes_fit, sizes_in, shape_fits, evaluable_by, corners_at, corners, add_corners, top_of, decoded, sampled_by, ranged, loaded_answer, outputs_after}
 use Rattle.sampled.proofs.Adding.{add_corners_length}
 use Rattle.sampled.proofs.Decoding.{decoded_length}
 use Rattle.sampled.proofs.Keying.{keys_of, keys_of_length}

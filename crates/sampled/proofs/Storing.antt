@@ -13,14 +13,12 @@ use Rattle.numeric.specs.Lists.{every, flat, pairs_of}
 use Rattle.numeric.specs.Whole.{nearest_to, cut_unsigned}
 use Rattle.numeric.proofs.Flat.{pairs_flat, length_flat}
 use Rattle.units.specs.Samples.{Table, width_in}
-use Rattle.function.specs.Answer.{Answer, ranged}
-use Rattle.function.specs.Function as function
+use Rattle.function.specs.Answer.{Answer}
 use Rattle.function.specs.Limits.{from_one_to, most_inputs, most_outputs, most_size, most_samples}
-use Rattle.function.specs.Numbers.{body_numbers, whole_numbers}
 use Rattle.sampled.specs.declared.type0.Corner.{Corner}
 use Rattle.sampled.specs.declared.type0.Type0.{Type0}
 use Rattle.sampled.specs.Sampled as sampled
-use Rattle.sampled.specs.Sampled.{sizes_in, samples_needed, sizes_fit, grid_counts, grid_finite, grid_agrees, sampled_checks, evaluable, loaded_answer, sampled_answer, sampled_by, corner, corners_from, corners, corners_at, add_corners, spread, top_of, decoded}
+use Rattle.sampled.specs.Sampled.{size_numbers, sizes_in, own_numbers, entries_of, samples_needed, sizes_fit, grid_counts, grid_finite, grid_agrees, sampled_checks, evaluable, ranged, loaded_answer, sampled_answer, sampled_by, corner, corners_from, corners, corners_at, add_corners, spread, top_of, decoded}
 use Rattle.sampled.proofs.Adding.{add_corners_length}
 use Rattle.sampled.proofs.Decoding.{decoded_length}
 use Rattle.sampled.proofs.Fitting.{size_bounds}
@@ -32,21 +30,30 @@ size_back : (s : ℕ) → from_one_to most_size s ≡ true → cut_unsigned 32 (
 unfolding in_float
 size_back s h = let b = size_bounds s h in (unsigned_back binary32 32 s (le→leb s (2 ^ 24) (omega arith)) (omega arith)).1
 
-pub sizes_back : (sizes : List ℕ) → every (from_one_to most_size) sizes ≡ true → sizes_in (whole_numbers sizes) ≡ sizes
+pub sizes_back : (sizes : List ℕ) → every (from_one_to most_size) sizes ≡ true → sizes_in (size_numbers sizes) ≡ sizes
 sizes_back [] h = refl
 sizes_back (s ∷ ss) h =
     let k = and_parts (from_one_to most_size s) (every (from_one_to most_size) ss) h in
-    ap (λ (n : ℕ). n ∷ sizes_in (whole_numbers ss)) (size_back s k.0) ∙ ap (λ (ns : List ℕ). s ∷ ns) (sizes_back ss k.1)
+    ap (λ (n : ℕ). n ∷ sizes_in (size_numbers ss)) (size_back s k.0) ∙ ap (λ (ns : List ℕ). s ∷ ns) (sizes_back ss k.1)
 
 -- ---- how many entries
 
-pub own_length : (sizes : List ℕ) (encode decode : List Interval) (table : ℕ) → length (body_numbers (function.sampled sizes encode decode table)) ≡ length sizes + 2 * length encode + 2 * length decode
-own_length sizes encode decode table =
-    let a = length-append (whole_numbers sizes) (flat encode ++ flat decode) in
+pub own_length : (sizes : List ℕ) (encode decode : List Interval) → length (own_numbers sizes encode decode) ≡ length sizes + 2 * length encode + 2 * length decode
+own_length sizes encode decode =
+    let a = length-append (size_numbers sizes) (flat encode ++ flat decode) in
     let b = length-append (flat encode) (flat decode) in
     let n = length-map sizes (λ (s : ℕ). nearest_to (pos s)) in
     let e = length_flat encode in
     let d = length_flat decode in
+    omega arith
+
+pub entries_are : (domain range : List Interval) (sizes : List ℕ) (encode decode : List Interval) → length (flat domain ++ (flat range ++ own_numbers sizes encode decode)) ≡ entries_of domain range sizes encode decode
+entries_are domain range sizes encode decode =
+    let a = length-append (flat domain) (flat range ++ own_numbers sizes encode decode) in
+    let b = length-append (flat range) (own_numbers sizes encode decode) in
+    let d = length_flat domain in
+    let r = length_flat range in
+    let o = own_length sizes encode decode in
     omega arith
 
 -- ---- what passed the checks can be computed
@@ -89,7 +96,7 @@ module _ (index : ℕ) (domain range : List Interval) (sizes : List ℕ) (encode
       (subst (λ (m : ℕ). sizes_fit sizes m ≡ true) same all.2))
 
   -- a loaded one whose parts of the number list are those numbers answers as the function that was given
-  pub loaded_is : (tables : List Table) (place : ℕ) (t : Type0) (xs : List Float) → t.domain.now ≡ flat domain → t.range.now ≡ flat range → t.sizes.now ≡ whole_numbers sizes → t.encode.now ≡ flat encode → t.decode.now ≡ flat decode
+  pub loaded_is : (tables : List Table) (place : ℕ) (t : Type0) (xs : List Float) → t.domain.now ≡ flat domain → t.range.now ≡ flat range → t.sizes.now ≡ size_numbers sizes → t.encode.now ≡ flat encode → t.decode.now ≡ flat decode
       → length xs ≡ length domain → loaded_answer tables place t xs ≡ ranged range (sampled_answer tables place domain sizes encode decode t.table (clamp_all domain xs))
   loaded_is tables place t xs pd pr ps pe pc n =
       let F : List Interval → List Interval → List ℕ → List Interval → List Interval → Result Answer Fault =

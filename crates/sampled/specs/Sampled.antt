@@ -8,12 +8,12 @@ use Rattle.fault.specs.Checks.{Check, check, fault}
 use Rattle.fault.specs.declared.cause.Cause.TheVariants.{Count, NotFinite, UpsideDown, CountsDisagree, Size, NoTable, NoSample}
 use Rattle.fault.specs.declared.cause.Fault.{Fault}
 use Rattle.numeric.specs.Interval.{Interval, both_finite, rises, clamp_all, interpolate}
-use Rattle.numeric.specs.Lists.{every, pairs_of}
+use Rattle.numeric.specs.Lists.{every, flat, pairs_of}
 use Rattle.numeric.specs.Whole.{cut_unsigned, nearest_to}
 use Rattle.units.specs.Samples.{Table, bits_of, width_in, sample_in}
 use Rattle.units.specs.declared.samples.Width.{Width}
-use Rattle.function.specs.Answer.{Answer, ranged}
-use Rattle.function.specs.Function.{Function, sampled}
+use Rattle.function.specs.Answer.{Answer}
+use Rattle.function.specs.Evaluate.{clamp_outputs}
 use Rattle.function.specs.Limits.{from_one_to, most_outputs, most_inputs, most_size, most_samples}
 use Rattle.function.specs.Outputs.{over}
 use Rattle.sampled.specs.declared.type0.Corner.{Corner}
@@ -42,9 +42,6 @@ encode_of e = pairs_or e.encode (whole_grid e.sizes.now)
 -- an absent Decode is the Range
 abbrev pub decode_of : Sampled → List Interval
 decode_of e = pairs_or e.decode e.range.now
-
-abbrev pub sampled_of : Sampled → Function
-sampled_of e = record { domain = e.domain.now; range = e.range.now; body = sampled e.sizes.now (encode_of e) (decode_of e) e.table }
 
 -- ---- what is checked
 
@@ -79,8 +76,23 @@ sampled_checks index domain range sizes encode decode =
 abbrev pub table_check : List Table → ℕ → ℕ → Check
 table_check tables index table = check (is_some (width_in tables table)) (fault NoTable index)
 
+-- ---- the numbers that it is stored as, behind its Domain and Range
+
+abbrev pub size_numbers : List ℕ → List Float
+size_numbers sizes = map (λ size. nearest_to (pos size)) sizes
+
+abbrev pub own_numbers : List ℕ → List Interval → List Interval → List Float
+own_numbers sizes encode decode = size_numbers sizes ++ (flat encode ++ flat decode)
+
+-- a pair takes two entries, a Size one
+abbrev pub entries_of : List Interval → List Interval → List ℕ → List Interval → List Interval → ℕ
+entries_of domain range sizes encode decode = 2 * length domain + 2 * length range + length sizes + 2 * length encode + 2 * length decode
+
 abbrev pub given_checks : ℕ → Sampled → List Check
 given_checks index e = sampled_checks index e.domain.now e.range.now e.sizes.now (encode_of e) (decode_of e)
+
+abbrev pub given_entries : Sampled → ℕ
+given_entries e = entries_of e.domain.now e.range.now e.sizes.now (encode_of e) (decode_of e)
 
 -- ---- what is computed
 
@@ -190,6 +202,10 @@ shape_fits domain sizes encode decode inputs =
 -- so many inputs can be computed with: what loading tests, as far as computing needs it
 abbrev pub evaluable : List Interval → List ℕ → List Interval → List Interval → ℕ → Bool
 evaluable domain sizes encode decode inputs = shape_fits domain sizes encode decode inputs && sizes_fit sizes (length decode)
+
+abbrev pub ranged : List Interval → Result Answer Fault → Result Answer Fault
+ranged range (Ok a) = Ok (clamp_outputs range a)
+ranged range (Err e) = Err e
 
 abbrev pub evaluable_by : Type0 → ℕ → Bool
 evaluable_by t inputs = evaluable (pairs_of t.domain.now) (sizes_in t.sizes.now) (pairs_of t.encode.now) (pairs_of t.decode.now) inputs

@@ -1,15 +1,14 @@
 // Writing Sizes, and the Encode pairs that they give where there are none, into the number list.
 ghost use Rattle.std.specs.Prelude.{◌≡◌};
 ghost use Rattle.numeric.specs.Lists.{flat, Lays};
-ghost use Rattle.function.specs.Numbers.{whole_numbers};
-ghost use Rattle.sampled.specs.Sampled.{whole_grid};
+ghost use Rattle.sampled.specs.Sampled.{size_numbers, whole_grid};
 
 use crate::sizes::last_point;
 use numeric::nearest_u32;
 
 // Writes the Sizes into the list from `at` on, as numeric::put does.
 pub(crate) fn put_sizes(list: &mut [f32], at: usize, sizes: &[u32]) -> usize
-    ensures { Lays list.old at (whole_numbers sizes.now) list.new result }
+    ensures { Lays list.old at (size_numbers sizes.now) list.new result }
 {
     if at > list.len() || sizes.len() > list.len() - at {
         return at;

@@ -5,8 +5,8 @@ ghost use Rattle.numeric.specs.Interval.{both_finite, rises};
 ghost use Rattle.numeric.specs.Lists.{every, flat, Lays};
 ghost use Rattle.units.specs.Samples.{width_in};
 ghost use Rattle.function.specs.Limits.{from_one_to, most_inputs, most_outputs};
-ghost use Rattle.function.specs.Numbers.{judged, numbers_of, whole_numbers};
-ghost use Rattle.sampled.specs.Sampled.{encode_of, decode_of, grid_counts, grid_finite, grid_agrees, given_checks, sampled_of};
+ghost use Rattle.function.specs.Numbers.{judged};
+ghost use Rattle.sampled.specs.Sampled.{encode_of, decode_of, grid_counts, grid_finite, grid_agrees, given_checks, given_entries, size_numbers};
 
 use crate::laying::{put_grid, put_sizes};
 use crate::sizes::{grid_finite, sizes_fit};
@@ -101,7 +101,7 @@ impl<'c> Sampled<'c> {
 
     // The number entries that the function takes, or the fault for which it cannot be loaded at the index.
     pub fn check(&self, index: usize) -> Result<usize, Fault>
-        ensures { result ≡ judged (first_fault (given_checks index self.now)) (length (numbers_of (sampled_of self.now))) }
+        ensures { result ≡ judged (first_fault (given_checks index self.now)) (given_entries self.now) }
     {
         demand(self.counts_fit(), Fault::new(Cause::Count, index))?;
         demand(self.all_finite(), Fault::new(Cause::NotFinite, index))?;
@@ -128,7 +128,7 @@ impl<'c> Sampled<'c> {
     // Writes the Sizes into the list from `at` on, and says which place lies behind them. Where they do not fit, nothing is
     // written and the place is `at`.
     pub fn put_sizes(&self, list: &mut [f32], at: usize) -> usize
-        ensures { Lays list.old at (whole_numbers self.now.sizes.now) list.new result }
+        ensures { Lays list.old at (size_numbers self.now.sizes.now) list.new result }
     {
         put_sizes(list, at, self.sizes)
     }

@@ -1,6 +1,5 @@
 // A job run to its record: each call's line, and below it what the set or a unit answered.
 mod calls;
-mod held;
 mod replies;
 mod run;
 

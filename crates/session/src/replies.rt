@@ -12,9 +12,6 @@ pub(crate) enum Reply {
     // a call that needs a set came before one was opened
     NoSet,
     Number(f32),
-    // what a sample unit has, or has not
-    Found(usize),
-    Absent,
     Loaded(usize),
     Outputs(Counts, Vec<f32>),
     Refused(Fault),
@@ -29,8 +26,6 @@ impl Reply {
             Reply::Unit => String::from_str(heap, "unit"),
             Reply::NoSet => String::from_str(heap, "no set"),
             Reply::Number(x) => number(heap, *x),
-            Reply::Found(n) => format!(in heap; "some {n}"),
-            Reply::Absent => String::from_str(heap, "none"),
             Reply::Loaded(index) => format!(in heap; "loaded {index}"),
             Reply::Outputs(counts, values) => outputs(heap, *counts, values),
             Reply::Refused(fault) => format!(in heap; "{fault}"),

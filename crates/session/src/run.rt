@@ -1,13 +1,13 @@
 // A whole job. A set borrows the lists that it is opened over, so each `open` begins a stretch of lines of its own.
 ghost use Rattle.std.specs.Prelude.{◌≡◌, ◌+◌, ◌-◌, ◌^◌, ◌<◌, length, IfOk};
 
-use crate::calls::perform;
-use crate::held::Held;
+use crate::calls::{perform, perform_without_set};
 use crate::replies::Reply;
 use command::{Command, read_line};
 use function::{Instruction, Record as FunctionRecord};
 use set::{Memory, Set, check_lengths};
 use std::alloc::{AllocError, Global};
+use units::House;
 
 // What a job wrote, and what was wrong with the line that ended it.
 #[derive(Drop)]
@@ -47,12 +47,11 @@ pub fn run_job(heap: Global, text: &str) -> Result<Record, AllocError> {
         text: String::new(heap),
         error: None,
     };
-    let mut held = Held::new(heap);
     let mut next = Next { at: 0, sizes: None };
     while next.at < lines.len() {
         next = match next.sizes {
-            None => run_without_set(heap, &mut record, &mut held, &lines, next.at)?,
-            Some(sizes) => run_with_set(heap, &mut record, &mut held, &lines, next.at, sizes)?,
+            None => run_without_set(heap, &mut record, &lines, next.at)?,
+            Some(sizes) => run_with_set(heap, &mut record, &lines, next.at, sizes)?,
         };
     }
     Ok(record)
@@ -62,13 +61,13 @@ pub fn run_job(heap: Global, text: &str) -> Result<Record, AllocError> {
 fn run_without_set(
     heap: Global,
     record: &mut Record,
-    held: &mut Held,
     lines: &[&str],
     from: usize,
 ) -> Result<Next, AllocError>
     requires { from < length lines.now }
     ensures { IfOk result (λ n. from < n.at) }
 {
+    let mut unit = House;
     for at in from..lines.len() {
         match read(heap, record, lines[at], at + 1)? {
             Line::Silent => {}
@@ -79,7 +78,7 @@ fn run_without_set(
                 }
             }
             Line::Call(command) => {
-                let reply = held.perform(heap, &command)?;
+                let reply = perform_without_set(&mut unit, &command);
                 write(heap, record, lines[at], &reply)?;
             }
         }
@@ -91,7 +90,6 @@ fn run_without_set(
 fn run_with_set(
     heap: Global,
     record: &mut Record,
-    held: &mut Held,
     lines: &[&str],
     from: usize,
     sizes: Sizes,
@@ -103,16 +101,15 @@ fn run_with_set(
     let mut numbers = vec![in heap; 0.0f32; sizes.numbers]?;
     let mut instructions = vec![in heap; Instruction::EMPTY; sizes.instructions]?;
     match Memory::open(&mut records, &mut numbers, &mut instructions) {
-        Ok(memory) => run_over(heap, record, held, lines, from, &mut Set::over(memory)),
+        Ok(memory) => run_over(heap, record, lines, from, &mut Set::over(memory)),
         // the lengths were checked by the line that opens; go on without a set
-        Err(_) => run_without_set(heap, record, held, lines, from),
+        Err(_) => run_without_set(heap, record, lines, from),
     }
 }
 
 fn run_over(
     heap: Global,
     record: &mut Record,
-    held: &mut Held,
     lines: &[&str],
     from: usize,
     set: &mut Set,
@@ -120,6 +117,7 @@ fn run_over(
     requires { from < length lines.now }
     ensures { IfOk result (λ n. from < n.at) }
 {
+    let mut unit = House;
     for at in from..lines.len() {
         match read(heap, record, lines[at], at + 1)? {
             Line::Silent => {}
@@ -130,12 +128,11 @@ fn run_over(
                 }
             }
             Line::Call(Command::Reset) => {
-                let reply = held.perform(heap, &Command::Reset)?;
-                write(heap, record, lines[at], &reply)?;
+                write(heap, record, lines[at], &Reply::Reset)?;
                 return Ok(go_on(at, None));
             }
             Line::Call(command) => {
-                let reply = perform(heap, set, held, &command)?;
+                let reply = perform(heap, set, &mut unit, &command)?;
                 write(heap, record, lines[at], &reply)?;
             }
         }

@@ -43,36 +43,6 @@ mod tests {
     }
 
     #[test]
-    fn recorded_answers(rt: HostRuntime) -> Result<(), Fail> {
-        let job =
-            "arith recorded 1 4 0 3\nask 1 4 0\nask 1 9 0\nopen 1 9 1\nask 1 4 0\nreset\nask 1 4 0\n";
-        let record =
-            "arith recorded 1 4 0 3\n  unit\nask 1 4 0\n  answer 40400000 (3)\nask 1 9 0\n  answer nan (nan)\nopen 1 9 1\n  opened\nask 1 4 0\n  answer 40400000 (3)\nreset\n  reset\nask 1 4 0\n  answer 40000000 (2)\n";
-        assert!(rt; writes(rt.alloc(), job, record, "")?);
-        Ok(())
-    }
-
-    #[test]
-    fn samples_of_a_job(rt: HostRuntime) -> Result<(), Fail> {
-        let job =
-            "samples packed 8:0:3 0a1428\nwidth 0\ncount 0\nsample 0 2\nsample 0 3\nsamples unpacked 4:0:2 5,15\nwidth 0\nsample 0 1\nreset\ncount 0\n";
-        let record =
-            "samples packed 8:0:3 0a1428\n  unit\nwidth 0\n  some 8\ncount 0\n  some 3\nsample 0 2\n  some 40\nsample 0 3\n  none\nsamples unpacked 4:0:2 5,15\n  unit\nwidth 0\n  some 4\nsample 0 1\n  some 15\nreset\n  reset\ncount 0\n  none\n";
-        assert!(rt; writes(rt.alloc(), job, record, "")?);
-        Ok(())
-    }
-
-    #[test]
-    fn refused_samples_keep_the_earlier(rt: HostRuntime) -> Result<(), Fail> {
-        let job =
-            "samples packed 8:0:1 0a\nsamples packed 3:0:1 00\nsamples packed 4294967304:0:1 00\nsamples unpacked 4:0:1 16\nsample 0 0\n";
-        let record =
-            "samples packed 8:0:1 0a\n  unit\nsamples packed 3:0:1 00\n  fault 32 layer 4 index 0 place 0 (a sample unit has an unknown width or too many tables)\nsamples packed 4294967304:0:1 00\n  fault 32 layer 4 index 0 place 0 (a sample unit has an unknown width or too many tables)\nsamples unpacked 4:0:1 16\n  fault 33 layer 4 index 0 place 0 (a stretch of a sample unit is outside its list, or a word is too great)\nsample 0 0\n  some 10\n";
-        assert!(rt; writes(rt.alloc(), job, record, "")?);
-        Ok(())
-    }
-
-    #[test]
     fn a_wrong_line_ends_the_job(rt: HostRuntime) -> Result<(), Fail> {
         assert!(rt;
             writes(

@@ -1,6 +1,6 @@
-mod Counted
-mod Growing
-mod Loading
-mod Rooming
-mod Stretches
-mod Wholes
+pub mod Between
+pub mod Calling
+pub mod Growing
+pub mod Loading
+pub mod Reading
+pub mod Rooming

@@ -1,5 +1,5 @@
-pub mod Given
 pub mod Lent
 pub mod Model
 pub mod State
 pub mod Steps
+pub mod View

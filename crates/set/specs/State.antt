@@ -1,5 +1,6 @@
 -- The model of a set, and what a loading leaves in the lent lists. Assumes nothing.
-use Rattle.std.specs.Prelude.{◌≡◌, ℕ, List, take, set, Ok, Err, Result, slice_set}
+use Rattle.std.specs.Prelude.{◌≡◌, ℕ, ◌<◌, List, length, take, set, Some, None, Ok, Err, Result, slice_index_or, slice_set}
+use Rattle.fault.specs.Checks.{first_fault}
 use Rattle.fault.specs.declared.cause.Fault.{Fault}
 use Rattle.numeric.specs.Lists.{written}
 use Rattle.function.specs.Function.{Function}
@@ -7,8 +8,8 @@ use Rattle.function.specs.Numbers.{numbers_of}
 use Rattle.function.specs.declared.record.Record.{Record}
 use Rattle.set.specs.Model.{Entries, entries, Model}
 use Rattle.set.specs.Lent.{lengths}
-use Rattle.set.specs.Steps.{left}
-use Rattle.loaded.specs.View.{functions_in, record_of}
+use Rattle.set.specs.Steps.{left, call_checks}
+use Rattle.set.specs.View.{functions_in, record_of}
 use Rattle.set.specs.declared.memory.Memory.{Memory}
 use Rattle.set.specs.declared.set.Set.{Set}
 
@@ -33,3 +34,8 @@ pub record Appended (f : Function) (s s' : Set) : Type 0 where
 abbrev pub Stored : Function → Set → Set → Result ℕ Fault → Type 0
 Stored f s s' (Ok index) = Appended f s s'
 Stored f s s' (Err e) = Untouched s.memory s'.memory
+
+-- the record of a function that is called as it must be, or the fault
+abbrev pub Fitting : Set → ℕ → ℕ → ℕ → Result Record Fault → Type 0
+Fitting s i inputs room (Ok r) = (r ≡ slice_index_or s.memory.records.now i r) × (i < s.count) × (first_fault (call_checks (model_of s).functions i inputs room) ≡ None)
+Fitting s i inputs room (Err e) = first_fault (call_checks (model_of s).functions i inputs room) ≡ Some e

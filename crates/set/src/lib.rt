@@ -2,6 +2,5 @@
 mod memory;
 mod set;
 
-pub use loaded::FULL_LIST;
 pub use memory::{MAX_FUNCTIONS, MAX_INSTRUCTIONS, MAX_NUMBERS, Memory, check_lengths};
-pub use set::Set;
+pub use set::{FULL_LIST, Set};

@@ -1,20 +1,18 @@
 // The lists that a caller lends to a set. They carry no invariant of their own, so that they can be lent on.
-ghost use Rattle.std.specs.Prelude.{◌≡◌, ℕ, ◌+◌, ◌<◌, ◌≤◌, true, false, length, Ok, Err};
+ghost use Rattle.std.specs.Prelude.{◌≡◌, ℕ, ◌+◌, ◌<◌, ◌≤◌, true, false, length, set, Ok, Err, slice_set};
 ghost use Rattle.fault.specs.Checks.{fault};
 ghost use Rattle.fault.specs.declared.cause.Cause.TheVariants.{SetList};
+ghost use Rattle.numeric.specs.Lists.{laid};
 ghost use Rattle.function.specs.Exponential.{exponential_of};
 ghost use Rattle.function.specs.Numbers.{numbers_of};
-ghost use Rattle.sampled.specs.Sampled.{sampled_of};
-ghost use Rattle.stitched.specs.Stitched.{stitched_of};
-ghost use Rattle.set.specs.Lent.{Lent, Laid};
+ghost use Rattle.set.specs.Lent.{Lent};
 ghost use Rattle.set.specs.Model.{entries};
 ghost use Rattle.set.specs.Steps.{opens};
+ghost use Rattle.set.specs.View.{record_of};
 
 use fault::{Cause, Fault, demand};
 use function::{Exponential, Instruction, Kind, Record};
 use numeric::{put, put_pairs};
-use sampled::Sampled;
-use stitched::Stitched;
 
 // The longest lists that a set is opened over.
 pub const MAX_FUNCTIONS: usize = 256;
@@ -71,7 +69,10 @@ impl<'a> Memory<'a> {
     pub(crate) fn lay_exponential(&mut self, index: usize, at: usize, given: &Exponential) -> Record
         requires index { index < length self.old.records.now }
         requires numbers { at + length (numbers_of (exponential_of given.now)) ≤ length self.old.numbers.now }
-        ensures { Laid (exponential_of given.now) index at self.old self.new result }
+        ensures value { result ≡ record_of at (exponential_of given.now) }
+        ensures records { self.new.records.now ≡ slice_set self.old.records.now index result }
+        ensures numbers { self.new.numbers.now ≡ laid self.old.numbers.now at (numbers_of (exponential_of given.now)) }
+        ensures instructions { self.new.instructions.now ≡ self.old.instructions.now }
     {
         let range = put_pairs(self.numbers, at, given.domain);
         let own = put_pairs(self.numbers, range, given.range);
@@ -80,64 +81,6 @@ impl<'a> Memory<'a> {
         let end = put(self.numbers, n, &[given.n]);
         let record = Record {
             kind: Kind::Exponential { c1, n },
-            domain: at,
-            range,
-            own,
-            end,
-        };
-        self.records[index] = record;
-        record
-    }
-
-    // The same for a stitched function of this depth.
-    pub(crate) fn lay_stitched(
-        &mut self,
-        index: usize,
-        at: usize,
-        given: &Stitched,
-        depth: usize,
-    ) -> Record
-        requires index { index < length self.old.records.now }
-        requires numbers { at + length (numbers_of (stitched_of depth given.now)) ≤ length self.old.numbers.now }
-        ensures { Laid (stitched_of depth given.now) index at self.old self.new result }
-    {
-        let range = put_pairs(self.numbers, at, given.domain);
-        let own = put_pairs(self.numbers, range, given.range);
-        let bounds = given.put_parts(self.numbers, own);
-        let encode = put(self.numbers, bounds, given.bounds);
-        let end = put_pairs(self.numbers, encode, given.encode);
-        let record = Record {
-            kind: Kind::Stitched {
-                bounds,
-                encode,
-                depth,
-            },
-            domain: at,
-            range,
-            own,
-            end,
-        };
-        self.records[index] = record;
-        record
-    }
-
-    // The same for a sampled function.
-    pub(crate) fn lay_sampled(&mut self, index: usize, at: usize, given: &Sampled) -> Record
-        requires index { index < length self.old.records.now }
-        requires numbers { at + length (numbers_of (sampled_of given.now)) ≤ length self.old.numbers.now }
-        ensures { Laid (sampled_of given.now) index at self.old self.new result }
-    {
-        let range = put_pairs(self.numbers, at, given.domain);
-        let own = put_pairs(self.numbers, range, given.range);
-        let encode = given.put_sizes(self.numbers, own);
-        let decode = given.put_encode(self.numbers, encode);
-        let end = given.put_decode(self.numbers, decode);
-        let record = Record {
-            kind: Kind::Sampled {
-                encode,
-                decode,
-                table: given.table,
-            },
             domain: at,
             range,
             own,

@@ -2,14 +2,14 @@
 mod evaluate;
 mod load;
 mod open;
-mod view;
 
 ghost use Rattle.std.specs.Prelude.{◌≡◌, ◌≤◌, true, [], length, take};
 ghost use Rattle.numeric.specs.Lists.{every};
-ghost use Rattle.loaded.specs.View.{functions_in, placed};
-ghost use Rattle.loaded.specs.Admit.{admitted};
+ghost use Rattle.set.specs.View.{functions_in, placed};
+ghost use Rattle.set.specs.Steps.{admitted};
 
 use crate::memory::Memory;
+pub use evaluate::FULL_LIST;
 
 // The first `count` records, `used` numbers and `laid` instructions are those of the loaded functions.
 #[derive(Drop)]
@@ -19,7 +19,6 @@ pub struct Set<'a> {
     used: usize,
     laid: usize,
     ghost fits: { (count ≤ length memory.records.now) × (used ≤ length memory.numbers.now) × (laid ≤ length memory.instructions.now) },
-    ghost few: { count ≤ 256 },
     ghost inside: { every (placed used) (take count memory.records.now) ≡ true },
     ghost lawful: { admitted [] (functions_in (take count memory.records.now) (take used memory.numbers.now)) ≡ true },
 }

@@ -5,7 +5,7 @@ mod tests {
     use function::{Counts, Exponential, Instruction, Record};
     use set::{Memory, Set};
     use std::test::Fail;
-    use units::{House, Unpacked};
+    use units::House;
 
     const UNIT: [(f32, f32); 1] = [(0.0, 1.0)];
 
@@ -17,11 +17,6 @@ mod tests {
             c1: None,
             n,
         }
-    }
-
-    // A sample unit without tables.
-    fn no_samples<'a>() -> Unpacked<'a> {
-        Unpacked::new(&[], &[])
     }
 
     fn is_fault(given: Option<Fault>, cause: Cause, index: usize) -> bool {
@@ -173,13 +168,7 @@ mod tests {
         if let Some(fault) = load(&mut set, given) {
             return (Err(fault), 0.0, 0.0);
         }
-        let counts = set.evaluate(
-            &mut House,
-            &no_samples(),
-            0,
-            &[x],
-            &mut outputs[0..room.min(64)],
-        );
+        let counts = set.evaluate(&mut House, 0, &[x], &mut outputs[0..room.min(64)]);
         (counts, outputs[0], outputs[1])
     }
 
@@ -217,15 +206,12 @@ mod tests {
         assert!(rt; load(&mut set, &plain(&UNIT, 1.0)).is_none());
         assert!(rt; is_fault(load(&mut set, &plain(&UNIT, 1.0)), Cause::Room, 2));
         let mut outputs = [0.0f32; 64];
+        assert!(rt; set.evaluate(&mut House, 1, &[0.5], &mut outputs).is_ok());
         assert!(rt;
-            set.evaluate(&mut House, &no_samples(), 1, &[0.5], &mut outputs)
-                .is_ok()
+            matches!(set.evaluate(&mut House, 2, &[0.5], &mut outputs), Err(fault) if fault == Fault::new(Cause::NoFunction, 2))
         );
         assert!(rt;
-            matches!(set.evaluate(&mut House, &no_samples(), 2, &[0.5], &mut outputs), Err(fault) if fault == Fault::new(Cause::NoFunction, 2))
-        );
-        assert!(rt;
-            matches!(set.evaluate(&mut House, &no_samples(), 1, &[], &mut outputs), Err(fault) if fault == Fault::new(Cause::InputCount, 1))
+            matches!(set.evaluate(&mut House, 1, &[], &mut outputs), Err(fault) if fault == Fault::new(Cause::InputCount, 1))
         );
         Ok(())
     }

@@ -1,19 +1,16 @@
 -- Stitched functions (type 3): what a caller gives, what is checked, and which part an input goes to. Assumes nothing.
-use Rattle.std.specs.Prelude.{◌≡◌, ℕ, suc, ◌-◌, ◌<◌, max, Bool, true, cond, ◌&&◌, T, List, [], ◌∷◌, ◌++◌, length, get_or, ◌==◌, from_bits, nat_le, nat_lt, slice_index_or, Float}
+use Rattle.std.specs.Prelude.{◌≡◌, ℕ, suc, ◌-◌, ◌<◌, max, Bool, true, cond, ◌&&◌, T, List, [], ◌∷◌, ◌++◌, map, length, get_or, pos, ◌==◌, from_bits, nat_le, nat_lt, slice_index_or, Float}
 use Rattle.std.specs.Float.Ieee.{add, sub, lt, le, eq, fits}
 use Rattle.std.specs.Float.{float_is_finite, nan, binary32}
 use Rattle.fault.specs.Checks.{Check, check, fault}
 use Rattle.fault.specs.declared.cause.Cause.TheVariants.{Count, NotFinite, UpsideDown, CountsDisagree, Part, Bounds, Depth}
 use Rattle.numeric.specs.Interval.{Interval, both_finite, rises, ordered, within, interpolate, clamp_all}
-use Rattle.numeric.specs.Lists.{every}
-use Rattle.numeric.specs.Whole.{cut_unsigned}
+use Rattle.numeric.specs.Lists.{every, flat}
+use Rattle.numeric.specs.Whole.{cut_unsigned, nearest_to}
 use Rattle.function.specs.Answer.{first}
-use Rattle.function.specs.Function.{Function, stitched}
 use Rattle.function.specs.Limits.{from_one_to, full_list, most_parts, most_depth}
-use Rattle.function.specs.Numbers.{numbers_of}
 use Rattle.stitched.specs.declared.type3.Chosen.{Chosen}
 use Rattle.stitched.specs.declared.type3.Needs.{Needs}
-use Rattle.stitched.specs.declared.type3.Stitched.{Stitched}
 
 -- what a stitched function must know of an earlier one: how many inputs it takes, and how deep it is
 pub record Known : Type 0 where
@@ -67,20 +64,22 @@ stitched_checks earlier domain range parts bounds encode =
     ∷ check (nat_lt (deepest earlier parts) most_depth) (fault Depth index)
     ∷ []
 
--- ---- what is given
+-- ---- what is stored
 
-abbrev pub given_checks : List Known → Stitched → List Check
-given_checks earlier e = stitched_checks earlier e.domain.now e.range.now e.parts.now e.bounds.now e.encode.now
+-- an index as it lies in the number list
+abbrev pub index_number : ℕ → Float
+index_number p = nearest_to (pos p)
 
-abbrev pub stitched_of : ℕ → Stitched → Function
-stitched_of depth e = record { domain = e.domain.now; range = e.range.now; body = stitched e.parts.now e.bounds.now e.encode.now depth }
+-- the numbers behind the Domain and Range pairs
+abbrev pub own_numbers : List ℕ → List Float → List Interval → List Float
+own_numbers parts bounds encode = map index_number parts ++ (bounds ++ flat encode)
 
--- after the earlier ones it is 1 deeper than its deepest part
-abbrev pub stitched_after : List Known → Stitched → Function
-stitched_after earlier e = stitched_of (suc (deepest earlier e.parts.now)) e
-
-abbrev pub needs_of : List Known → Stitched → Needs
-needs_of earlier e = record { numbers = length (numbers_of (stitched_after earlier e)); depth = suc (deepest earlier e.parts.now) }
+-- a stitched function takes an entry for each of its numbers, and is 1 deeper than its deepest part
+abbrev pub needs_of : List Known → List Interval → List Interval → List ℕ → List Float → List Interval → Needs
+needs_of earlier domain range parts bounds encode = record {
+  numbers = length (flat domain ++ (flat range ++ own_numbers parts bounds encode));
+  depth = suc (deepest earlier parts);
+}
 
 -- ---- which part an input goes to
 

@@ -1,5 +1,5 @@
 // Stitched functions (type 3).
-ghost use Rattle.std.specs.Prelude.{◌≡◌, ◌+◌, ◌-◌, ◌<◌, ◌≤◌, true, ◌&&◌, T, length, slice_index_or};
+ghost use Rattle.std.specs.Prelude.{◌≡◌, ◌+◌, ◌-◌, ◌<◌, ◌≤◌, true, ◌&&◌, T, map, length, nat_le, slice_index_or};
 ghost use Rattle.std.specs.Float.{nan, binary32};
 ghost use Rattle.std.specs.Float.Ieee.{fits};
 ghost use Rattle.fault.specs.Checks.{first_fault};
@@ -7,13 +7,13 @@ ghost use Rattle.numeric.specs.Interval.{rises, within};
 ghost use Rattle.numeric.specs.Lists.{every, pairs_of, Lays};
 ghost use Rattle.numeric.specs.Whole.{cut_unsigned};
 ghost use Rattle.function.specs.Limits.{from_one_to, most_parts};
-ghost use Rattle.function.specs.Numbers.{judged, whole_numbers};
-ghost use Rattle.stitched.specs.Stitched.{bounds_rise, counts_fit, all_finite, counts_agree, first_pair, given_checks, needs_of, full_bounds, pick, part_input, choice, OnlyPart, OnlyStretch};
+ghost use Rattle.function.specs.Numbers.{judged};
+ghost use Rattle.stitched.specs.Stitched.{bounds_rise, counts_fit, all_finite, counts_agree, first_pair, stitched_checks, needs_of, index_number, own_numbers, full_bounds, pick, part_input, choice, OnlyPart, OnlyStretch};
 
 use crate::earlier::{Earlier, deepest, parts_loaded};
 use fault::{Cause, Fault, demand};
 use function::clamp_first;
-use numeric::{all_finite, cut_u32, interpolate, pairs_finite, pairs_rise};
+use numeric::{all_finite, cut_u32, interpolate, pairs_finite, pairs_rise, put, put_pairs};
 use std::num::nearest_u64_to_f32;
 
 // The most parts of a stitched function, the most Range pairs, and how deep stitched functions nest.
@@ -84,7 +84,7 @@ impl Stitched<'_> {
 
     // What the function needs, or the fault for which it cannot be loaded after the earlier ones.
     pub fn check<E: Earlier>(&self, earlier: &E) -> Result<Needs, Fault>
-        ensures { result ≡ judged (first_fault (given_checks (known earlier.now) self.now)) (needs_of (known earlier.now) self.now) }
+        ensures { result ≡ judged (first_fault (stitched_checks (known earlier.now) self.now.domain.now self.now.range.now self.now.parts.now self.now.bounds.now self.now.encode.now)) (needs_of (known earlier.now) self.now.domain.now self.now.range.now self.now.parts.now self.now.bounds.now self.now.encode.now) }
     {
         let index = earlier.count();
         let depth = deepest(earlier, self.parts);
@@ -108,12 +108,29 @@ impl Stitched<'_> {
         })
     }
 
-    // Writes the indices of the parts into the list from `at` on, and says which place lies behind them. Where they do not fit,
-    // nothing is written and the place is `at`.
-    pub fn put_parts(&self, list: &mut [f32], at: usize) -> usize
-        ensures { Lays list.old at (whole_numbers self.now.parts.now) list.new result }
+    // Whether so many free entries hold the parts, the Bounds and the Encode pairs.
+    fn fit_in(&self, free: usize) -> bool
+        ensures { result ≡ nat_le (length (own_numbers self.now.parts.now self.now.bounds.now self.now.encode.now)) free }
     {
-        put_indices(list, at, self.parts)
+        let parts = self.parts.len();
+        let bounds = self.bounds.len();
+        if parts > free || bounds > free - parts {
+            return false;
+        }
+        self.encode.len() <= (free - parts - bounds) / 2
+    }
+
+    // Writes the parts, the Bounds and the Encode pairs into the list from `at` on, and says which place lies behind them.
+    // Where they do not all fit, nothing is written and the place is `at`.
+    pub fn lay(&self, numbers: &mut [f32], at: usize) -> usize
+        ensures { Lays numbers.old at (own_numbers self.now.parts.now self.now.bounds.now self.now.encode.now) numbers.new result }
+    {
+        if at > numbers.len() || !self.fit_in(numbers.len() - at) {
+            return at;
+        }
+        let bounds = put_indices(numbers, at, self.parts);
+        let encode = put(numbers, bounds, self.bounds);
+        put_pairs(numbers, encode, self.encode)
     }
 }
 
@@ -159,7 +176,7 @@ fn rise(low: f32, high: f32, numbers: &[f32]) -> bool
 // Writes each index as the nearest f32 into the list from `at` on, and says which place lies behind
 // them. Where they do not fit, nothing is written and the place is `at`.
 fn put_indices(list: &mut [f32], at: usize, indices: &[usize]) -> usize
-    ensures { Lays list.old at (whole_numbers indices.now) list.new result }
+    ensures { Lays list.old at (map index_number indices.now) list.new result }
 {
     if at > list.len() || indices.len() > list.len() - at {
         return at;

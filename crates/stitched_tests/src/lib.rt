@@ -138,22 +138,26 @@ mod tests {
     }
 
     #[test]
-    fn puts_its_parts(rt: HostRuntime) {
+    fn lays_its_numbers(rt: HostRuntime) {
         let given = two_parts(&[200, 255], &[0.5]);
-        let mut numbers = [9.0f32; 4];
-        assert!(rt; given.put_parts(&mut numbers, 1) == 3);
-        assert!(rt; numbers[0] == 9.0 && numbers[3] == 9.0);
+        let mut numbers = [9.0f32; 9];
+        assert!(rt; given.lay(&mut numbers, 1) == 8);
+        assert!(rt; numbers[0] == 9.0 && numbers[8] == 9.0);
         assert!(rt; numbers[1] == 200.0 && numbers[2] == 255.0);
+        assert!(rt; numbers[3] == 0.5);
+        assert!(rt; numbers[4] == 0.0 && numbers[5] == 1.0);
+        assert!(rt; numbers[6] == 1.0 && numbers[7] == 0.0);
     }
 
     #[test]
-    fn puts_nothing_without_room(rt: HostRuntime) {
+    fn lays_nothing_without_room(rt: HostRuntime) {
         let given = two_parts(&[200, 255], &[0.5]);
-        let mut numbers = [9.0f32; 2];
-        assert!(rt; given.put_parts(&mut numbers, 1) == 1);
-        assert!(rt; given.put_parts(&mut numbers, 3) == 3);
-        assert!(rt; numbers[0] == 9.0 && numbers[1] == 9.0);
-        assert!(rt; given.put_parts(&mut numbers, 0) == 2);
+        let mut numbers = [9.0f32; 7];
+        assert!(rt; given.lay(&mut numbers, 1) == 1);
+        assert!(rt; given.lay(&mut numbers, 8) == 8);
+        assert!(rt; numbers[1] == 9.0 && numbers[6] == 9.0);
+        assert!(rt; given.lay(&mut numbers, 0) == 7);
+        assert!(rt; numbers[0] == 200.0 && numbers[6] == 0.0);
     }
 
     #[test]

@@ -1,5 +1,5 @@
 use Rattle.std.proofs.Common.{ℕ, List, Some, sym, ap, ◌∙◌, subst, rules}
-use Rattle.words.specs.Left.{text}
+use Rattle.command.specs.Left.{text}
 use Rattle.command.specs.Lines.{Means}
 use Rattle.command.proofs.Silence.{loud}
 use Rattle.command.proofs.line.read_line.Goals as goal
@@ -9,6 +9,7 @@ returns-in-err-command c =
     record {
       says = search rules;
       silent = λ s at no. absurd (loud _ _ _ c.new-words.ensures c.in-Some.ensures.word c.if-starts-with.ensures.cases s at no);
+      known = search rules;
     }
 
 pub returns-in-err-end : goal.returns-in-err-end
@@ -16,6 +17,7 @@ returns-in-err-end c =
     record {
       says = search rules;
       silent = λ s at no. absurd (loud _ _ _ c.new-words.ensures c.in-Some.ensures.word c.if-starts-with.ensures.cases s at no);
+      known = search rules;
     }
 
 pub returns : goal.returns
@@ -23,8 +25,9 @@ returns c =
     let first = c.in-Some.ensures in
     let told = c.in-ok-command.ensures in
     let left = text c.read-command.new.words in
-    let says = subst (λ (s : List ℕ). Means s left c.in-ok-command.command) first.rest told.1 in
+    let says = subst (λ (s : List ℕ). Means s left c.in-ok-command.command) first.rest told.means.1 in
     record {
-      says = (text c.new-words.result, c.new-words.ensures, (sym first.word ∙ ap Some (sym told.0), (left, says, c.in-ok-end.ensures)));
+      says = (text c.new-words.result, c.new-words.ensures, (sym first.word ∙ ap Some (sym told.means.0), (left, says, c.in-ok-end.ensures)));
       silent = λ s at no. absurd (loud _ _ _ c.new-words.ensures first.word c.if-starts-with.ensures.cases s at no);
+      known = told.known;
     }

@@ -1,8 +1,7 @@
-use Rattle.std.proofs.Common.{ℕ, ◌-◌, ◌<◌, ◌⊎◌, length, pos, inl, inr, arith}
+use Rattle.std.proofs.Common.{◌-◌, ◌<◌, ◌⊎◌, map, length, inl, inr, arith}
 use Rattle.std.proofs.lemmas.List.{length-map}
 use Rattle.numeric.proofs.Laying.{fits_not, put_none}
-use Rattle.numeric.specs.Whole.{nearest_to}
-use Rattle.function.specs.Numbers.{whole_numbers}
+use Rattle.stitched.specs.Stitched.{index_number}
 use Rattle.stitched.proofs.Storing.{indices_none, indices_more, indices_all}
 use Rattle.stitched.proofs.type3.put_indices.Goals as goal
 use Rattle.stitched.proofs.type3.put_indices.Goals.{then-at-list-via-then-at-list, then-at-list-via-else-at-list+then-indices-list}
@@ -11,11 +10,11 @@ pub returns-then-at-list : goal.returns-then-at-list
 returns-then-at-list c =
     let list = c.args.list.now in
     let at = c.args.at in
-    let xs = whole_numbers c.args.indices.now in
+    let xs = map index_number c.args.indices.now in
     let short : (length list < at) ⊎ (length list - at < length xs) =
     elim c.then-at-list.branch [
       | then-at-list-via-then-at-list w ↦ inl w.if-at-list.true
-      | then-at-list-via-else-at-list+then-indices-list w ↦ inr (omega (arith, w.if-indices-list.true, length-map c.args.indices.now (λ (n : ℕ). nearest_to (pos n))))
+      | then-at-list-via-else-at-list+then-indices-list w ↦ inr (omega (arith, w.if-indices-list.true, length-map c.args.indices.now index_number))
     ] in
     put_none list at xs (fits_not list at xs short)
 

@@ -1,10 +1,8 @@
 use Rattle.std.proofs.Common.{◌≡◌, ℕ, ◌+◌, ◌*◌, true, length, sym, refl, ap, ◌∙◌, arith}
 use Rattle.std.proofs.lemmas.Bool.{and_from}
 use Rattle.fault.specs.Checks.{passes}
-use Rattle.function.specs.Numbers.{numbers_of}
-use Rattle.function.proofs.Judging.{judged_passes, numbers_length}
-use Rattle.sampled.specs.Sampled.{decode_of, encode_of, given_checks, sampled_of}
-use Rattle.sampled.proofs.Storing.{own_length}
+use Rattle.function.proofs.Judging.{judged_passes}
+use Rattle.sampled.specs.Sampled.{given_checks, given_entries}
 use Rattle.sampled.proofs.type0.Sampled.check.Goals as goal
 
 pub returns : goal.returns
@@ -17,5 +15,5 @@ returns c =
     let fit = sym c.sizes-fit.ensures ∙ c.in-ok-demand-5.ensures in
     let all : passes (given_checks c.args.index e) ≡ true = and_from _ _ counts (and_from _ _ finite (and_from _ _ rise (and_from _ _ agree (and_from _ _ fit refl)))) in
     let decodes = ap length c.decode-pairs.ensures in
-    let sum : 2 * length e.domain.now + 2 * length e.range.now + (length e.sizes.now + 2 * c.encode-count.result + 2 * length c.decode-pairs.result.now) ≡ length (numbers_of (sampled_of e)) = omega (arith, numbers_length (sampled_of e), own_length e.sizes.now (encode_of e) (decode_of e) e.table) in
+    let sum : 2 * length e.domain.now + 2 * length e.range.now + (length e.sizes.now + 2 * c.encode-count.result + 2 * length c.decode-pairs.result.now) ≡ given_entries e = omega arith in
     judged_passes (given_checks c.args.index e) _ _ all sum

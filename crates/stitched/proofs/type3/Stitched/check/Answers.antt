@@ -1,10 +1,10 @@
-use Rattle.std.proofs.Common.{◌≡◌, ℕ, suc, ◌+◌, ◌*◌, true, ltb, length, sym, refl, ap, ◌∙◌, arith}
+use Rattle.std.proofs.Common.{◌≡◌, ℕ, suc, ◌+◌, ◌*◌, true, ltb, ◌++◌, length, sym, refl, ap, ◌∙◌, arith}
 use Rattle.std.proofs.lemmas.Bool.{and_from}
 use Rattle.fault.specs.Checks.{passes}
-use Rattle.function.specs.Numbers.{numbers_of}
-use Rattle.function.proofs.Judging.{judged_passes, numbers_length}
-use Rattle.stitched.specs.Stitched.{stitched_after, stitched_checks, deepest}
-use Rattle.stitched.proofs.Storing.{own_length}
+use Rattle.numeric.specs.Lists.{flat}
+use Rattle.function.proofs.Judging.{judged_passes}
+use Rattle.stitched.specs.Stitched.{stitched_checks, own_numbers, deepest}
+use Rattle.stitched.proofs.Storing.{all_length}
 use Rattle.stitched.proofs.type3.Stitched.check.Goals as goal
 
 pub returns : goal.returns
@@ -26,7 +26,7 @@ returns g c =
     let shallow = sym (ap (λ (n : ℕ). ltb n 8) deep) ∙ c.in-ok-demand-7.ensures in
     let all : passes (stitched_checks earlier domain range parts bounds encode) ≡ true =
     and_from _ _ counts (and_from _ _ finite (and_from _ _ rise (and_from _ _ agree (and_from _ _ loaded (and_from _ _ bound (and_from _ _ shallow refl)))))) in
-    let f = stitched_after earlier s in
-    let sum : 2 * (length domain + length range + length encode) + length parts + length bounds ≡ length (numbers_of f) = omega (arith, numbers_length f, own_length parts bounds encode (suc (deepest earlier parts))) in
+    let sum : 2 * (length domain + length range + length encode) + length parts + length bounds ≡ length (flat domain ++ (flat range ++ own_numbers parts bounds encode)) =
+    omega (arith, all_length domain range parts bounds encode) in
     let next : c.deepest-depth.result + 1 ≡ suc (deepest earlier parts) = omega arith in
     judged_passes (stitched_checks earlier domain range parts bounds encode) _ _ all (λ j. record { numbers = sum j; depth = next j })

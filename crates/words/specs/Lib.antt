@@ -1,5 +1,0 @@
-pub mod Bytes
-pub mod Cutting
-pub mod Fields
-pub mod Left
-pub mod Tables
