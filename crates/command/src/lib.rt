@@ -1,4 +1,6 @@
 // One line of a job file read into a command.
+#![tactic(auto)]
+
 mod exponential;
 mod line;
 mod lists;

@@ -1,4 +1,6 @@
 // Why a call is refused: one fault type for every layer.
+#![tactic(auto)]
+
 mod cause;
 mod refusing;
 

@@ -1,4 +1,6 @@
 // The kinds of functions: what a caller gives, what loading checks, how a function is stored, and what it computes.
+#![tactic(auto)]
+
 mod clamper;
 mod counts;
 mod record;

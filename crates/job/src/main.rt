@@ -1,4 +1,6 @@
 // Runs a job from standard input, or those in the files named as arguments, and prints the record.
+#![tactic(auto)]
+
 use anyhow::anyhow;
 use session::{Record, run_job};
 use std::{env, fs, io};

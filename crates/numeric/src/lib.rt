@@ -1,5 +1,7 @@
 // Float arithmetic that every kind of function shares: clamping to Domain and Range pairs,
 // interpolation, cutting to integers, and lists of numbers.
+#![tactic(auto)]
+
 mod between;
 mod lists;
 mod pair;

@@ -1,4 +1,6 @@
 // Tests of the crate numeric on examples.
+#![tactic(auto)]
+
 #[cfg(test)]
 mod tests {
     use numeric::{

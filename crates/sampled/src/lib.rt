@@ -1,4 +1,6 @@
 // Sampled functions: what a caller gives, what loading checks, and what a loaded one computes.
+#![tactic(auto)]
+
 mod corners;
 mod evaluate;
 mod keys;

@@ -1,4 +1,6 @@
 // A job run to its record: each call's line, and below it what the set or a unit answered.
+#![tactic(auto)]
+
 mod calls;
 mod replies;
 mod run;

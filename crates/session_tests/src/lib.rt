@@ -1,4 +1,6 @@
 // Whole jobs against their records.
+#![tactic(auto)]
+
 #[cfg(test)]
 mod tests {
     use session::{Record, run_job};

@@ -1,4 +1,6 @@
 // A set of functions over lent lists: opening it, loading functions into it and evaluating them.
+#![tactic(auto)]
+
 mod memory;
 mod set;
 

@@ -1,4 +1,6 @@
 // Sets of exponential functions: every refusal with its whole fault, and what is written.
+#![tactic(auto)]
+
 #[cfg(test)]
 mod tests {
     use fault::{Cause, Fault};

@@ -1,4 +1,6 @@
 // Stitched functions: what a caller gives, what loading checks, and which part an input goes to.
+#![tactic(auto)]
+
 mod earlier;
 mod type3;
 

@@ -1,4 +1,6 @@
 // Stitched functions: every refusal, what is stored, and which part an input goes to.
+#![tactic(auto)]
+
 mod loaded;
 
 #[cfg(test)]

@@ -1,4 +1,6 @@
 // The units that a function asks while it works: arithmetic units and sample units.
+#![tactic(auto)]
+
 mod arithmetic;
 mod directory;
 mod house;

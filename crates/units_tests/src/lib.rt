@@ -1,4 +1,6 @@
 // The units at the edges of their rules.
+#![tactic(auto)]
+
 #[cfg(test)]
 mod house;
 #[cfg(test)]

@@ -19,12 +19,12 @@ short ds h le = let most : 16 ^ length ds ≤ 16 ^ 8 = pow-le-pow_right (omega a
 
 pub returns-in-Ok : goal.returns-in-Ok
 returns-in-Ok c =
-    let e = plain c.args.digits.now c.if-starts-with.ensures.cases in
+    let e = plain c.args.digits.now c.if-starts_with.ensures.cases in
     let h = c.in-Ok.ensures.value in
     let n : IsNumeral 16 c.args.digits.now = subst (IsNumeral 16) e h.0.0 in
-    ((n, omega arith), c.f32-from-bits-with-nan.ensures ∙ ap (of_bits binary32) (h.1 ∙ ap (digits_value 16) e))
+    ((n, omega arith), c.f32_from_bits_with_nan.ensures ∙ ap (of_bits binary32) (h.1 ∙ ap (digits_value 16) e))
 
 pub returns-in-Err : goal.returns-in-Err
 returns-in-Err c d =
-    let e = sym (plain c.args.digits.now c.if-starts-with.ensures.cases) in
+    let e = sym (plain c.args.digits.now c.if-starts_with.ensures.cases) in
     c.in-Err.ensures.value (subst (IsNumeral 16) e d.0, subst (λ (bs : List ℕ). digits_value 16 bs < 4294967296) e (short _ d.0.1 d.1))

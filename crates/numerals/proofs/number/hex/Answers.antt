@@ -6,10 +6,10 @@ use Rattle.numerals.proofs.number.hex.Goals as goal
 
 pub loop-i-preserved : goal.loop-i-preserved
 loop-i-preserved c =
-    let grown = c.in-ok-push.ensures in
+    let grown = c.in_ok-push.ensures in
     grown.bytes
-    ∙ ap (λ ds. string_bytes c.loop-i.text ++ ds) (grown.ascii c.hex-digit.ensures.ascii)
-    ∙ ap (λ d. string_bytes c.loop-i.text ++ (d ∷ [])) c.hex-digit.ensures.value
+    ∙ ap (λ ds. string_bytes c.loop-i.text ++ ds) (grown.ascii c.hex_digit.ensures.ascii)
+    ∙ ap (λ d. string_bytes c.loop-i.text ++ (d ∷ [])) c.hex_digit.ensures.value
     ∙ ap (λ ds. ds ++ (digit_char (c.args.bits / 2 ^ (28 - 4 * c.loop-i.i) % 16) ∷ [])) c.loop-i.invariant
     ∙ sym (hex_more c.args.bits c.loop-i.i c.loop-i-test.true)
 

@@ -8,7 +8,7 @@ pub returns-then-not-is-finite : goal.returns-then-not-is-finite
 returns-then-not-is-finite c = left_failed float_is_finite c.args.xs.now c.loop-x.x-index nan c.loop-x-test.true (sym c.if-not-is-finite.ensures.value) c.loop-x.invariant
 
 pub loop-x-preserved : goal.loop-x-preserved
-loop-x-preserved c = left_passed float_is_finite c.args.xs.now c.loop-x.x-index nan c.loop-x-test.true (sym c.if-not-is-finite.ensures.value) c.loop-x.invariant
+loop-x-preserved c = left_passed float_is_finite c.args.xs.now c.loop-x.x-index nan c.loop-x-test.true (sym c.if-not-is_finite.ensures.value) c.loop-x.invariant
 
 pub returns : goal.returns
 returns c = left_none float_is_finite c.args.xs.now c.loop-x.x-index c.loop-x-test.false c.loop-x.invariant

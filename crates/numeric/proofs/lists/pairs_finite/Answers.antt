@@ -8,7 +8,7 @@ pub returns-then-not-both-finite : goal.returns-then-not-both-finite
 returns-then-not-both-finite c = left_failed both_finite c.args.ps.now c.loop-p.p-index (nan, nan) c.loop-p-test.true (sym c.if-not-both-finite.ensures) c.loop-p.invariant
 
 pub loop-p-preserved : goal.loop-p-preserved
-loop-p-preserved c = left_passed both_finite c.args.ps.now c.loop-p.p-index (nan, nan) c.loop-p-test.true (sym c.if-not-both-finite.ensures) c.loop-p.invariant
+loop-p-preserved c = left_passed both_finite c.args.ps.now c.loop-p.p-index (nan, nan) c.loop-p-test.true (sym c.if-not-both_finite.ensures) c.loop-p.invariant
 
 pub returns : goal.returns
 returns c = left_none both_finite c.args.ps.now c.loop-p.p-index c.loop-p-test.false c.loop-p.invariant

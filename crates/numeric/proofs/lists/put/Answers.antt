@@ -8,4 +8,4 @@ returns c =
     let at = c.args.at in
     let xs = c.args.xs.now in
     put_whole list at xs _ _ (fits_from list at xs (omega arith) (omega arith)) refl
-    (mid_written list at xs c.copy-from-slice.new.self c.copy-from-slice.ensures.after)
+    (mid_written list at xs c.copy_from_slice.new.self c.copy_from_slice.ensures.after)
