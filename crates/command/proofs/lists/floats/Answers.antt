@@ -9,10 +9,10 @@ pub loop-word-preserved : goal.loop-word-preserved
 loop-word-preserved c =
     let told = c.in-Some.ensures in (
       omega (arith, told.reads, c.loop-word.invariant.0),
-      list_more c.loop-word.invariant.1 told.word told.rest c.in-ok-float.ensures c.in-ok-push.ensures.items,
+      list_more c.loop-word.invariant.1 told.word told.rest c.in_ok-float.ensures c.in_ok-push.ensures.items,
     )
 
 pub returns : goal.returns
 returns c =
-    let told = c.in-default.ensures in
+    let told = c.in_default.ensures in
     record { value = list_end c.loop-word.invariant.1 told.word told.rest; shorter = omega (arith, told.reads, c.loop-word.invariant.0) }

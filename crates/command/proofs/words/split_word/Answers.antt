@@ -7,21 +7,21 @@ use Rattle.command.proofs.words.split_word.Goals as goal
 pub returns-in-Some-find : goal.returns-in-Some-find
 returns-in-Some-find c =
     let s = c.args.text.now in
-    let l = long s c.requires c.in-default.ensures.cases in
+    let l = long s c.requires c.in_default.ensures.cases in
     let h = c.in-Some-find.ensures.cases in
     let found = h.1 ends are_ends in
     let at = up_to_found s c.in-Some-find.at h.0 found.0 found.1 h.3.0 in
     let is = sym (l.0 ∙ at) in
     record {
-      word = c.split-at.ensures.front ∙ ap (λ n. take n s) is;
-      rest = c.split-at.ensures.back ∙ ap (λ n. drop n s) is;
-      shorter = omega (arith, l.1, at, c.split-at.ensures.back_len);
+      word = c.split_at.ensures.front ∙ ap (λ n. take n s) is;
+      rest = c.split_at.ensures.back ∙ ap (λ n. drop n s) is;
+      shorter = omega (arith, l.1, at, c.split_at.ensures.back_len);
     }
 
 pub returns-in-None : goal.returns-in-None
 returns-in-None c =
     let s = c.args.text.now in
-    let l = long s c.requires c.in-default.ensures.cases in
+    let l = long s c.requires c.in_default.ensures.cases in
     let all = up_to_none s (c.in-None.ensures.cases ends are_ends) in
     let is = sym (l.0 ∙ all) in
     record {

@@ -10,5 +10,5 @@ stripped line (Some x) h = inl h
 
 pub returns : goal.returns
 returns c =
-    subst (λ (s : Bor (List ℕ)). Unreturned c.args.line.now s.now) (sym c.unwrap-or-rest.ensures)
-    (stripped c.args.line c.strip-suffix.result (strip_suffix_char 13 c.args.line.now c.strip-suffix.result c.strip-suffix.ensures.cases (omega arith)))
+    subst (λ (s : Bor (List ℕ)). Unreturned c.args.line.now s.now) (sym c.unwrap_or-rest.ensures)
+    (stripped c.args.line c.strip_suffix.result (strip_suffix_char 13 c.args.line.now c.strip_suffix.result c.strip_suffix.ensures.cases (omega arith)))

@@ -22,7 +22,7 @@ loop-word-preserved c =
 
 pub returns : goal.returns
 returns c =
-    let told = c.in-default.ensures in
+    let told = c.in_default.ensures in
     record {
       field = c.loop-word.invariant.1 _ _ (name_none _ _ told.word told.rest);
       reads = omega (arith, told.reads, c.loop-word.invariant.0);
