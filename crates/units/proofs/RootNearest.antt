@@ -1,29 +1,16 @@
 -- The root that std rounds once is the f32 nearest to the root. Assumes nothing.
 use Rattle.std.proofs.Common.{◌≡◌, ℕ, zero, suc, ◌+◌, ◌*◌, ◌/◌, ◌%◌, ◌^◌, ◌<◌, ◌≤◌, Bool, true, false, cond, not, ◌&&◌, T, eqb, ltb, leb, ℤ, pos, sym, refl, ap, ◌∙◌, subst, lt_of_le_of_lt, le_of_lt, mul-le-mul_right, mul_assoc, mul-le-mul, lt_of_mul-lt-mul_right, mul-lt-mul_of_pos_right, mul-pos, lt_of_not-le, zero-mul, mul_right_comm, not-le_of_lt, le_of_mul-le-mul_right, mul-div_cancel, arith, lit<, ltb→lt, pow_pos, le-ltb, eq-eqb, ne_eqb, eqb-true, leb-false, leb-true}
 use native.Mathlib.Nat.{zero-div}
-use lib.Ieee.{Float, nan, inf, fin, binary32, up, down, size, round, fits, le, eq, of_bits}
+use lib.Ieee.{Float, nan, inf, fin, binary32, up, down, size, root_below, root_twice, round, fits, le, eq, of_bits}
 use lib.Ieee.Digits.{size-lt}
 use lib.Ieee.Exact.{HasValue}
 use lib.Ieee.Fits.{up_pos, down_pos, and_r}
 use lib.Ieee.Order.{le_of_values}
 use lib.Ieee.Scale.{grid, overflow}
-use Rattle.std.specs.Float.{float_is_finite, isqrt-below, twice-sqrt-sticky, sqrt}
+use Rattle.std.specs.Float.{float_is_finite, sqrt}
+use lib.Ieee.Root.{Root, whole_part}
 use Rattle.units.specs.House.{none, root, steps, IsRoot}
 use Rattle.units.proofs.RoundNearest.{Nearer, steps_in, grid_le, finite_of_value, round_value, round_nearest, fits_whole}
-
--- ---- the whole part of a root
-
-abbrev Root : ℕ → ℕ → Type 0
-Root s n = (s * s ≤ n) × (n < (s + 1) * (s + 1))
-
-digit : (r n : ℕ) (b : Bool) → Root r (n / 4) → leb ((2 * r + 1) * (2 * r + 1)) n ≡ b → Root (cond b (2 * r + 1) (2 * r)) n
-digit r n true h e = (leb-true _ _ e, omega (arith, h.1))
-digit r n false h e = (omega (arith, h.0), leb-false _ _ e)
-
-root_below : (k n : ℕ) → n < 2 ^ k → Root (isqrt-below k n) n
-unfolding isqrt-below
-root_below zero n h = omega arith
-root_below (suc k) n h = digit (isqrt-below k (n / 4)) n _ (root_below k (n / 4) (omega arith)) refl
 
 -- ---- twice a root, with its sticky 1, tells on which side of the root a whole number is
 
@@ -37,9 +24,9 @@ by_rest s n v false h e = (
   λ l. let i : s + 1 ≤ v = omega arith in omega (arith, mul-le-mul i i, h.1),
 )
 
-root_side : (n v : ℕ) → (2 * v ≤ twice-sqrt-sticky n → v * v ≤ n) × (twice-sqrt-sticky n ≤ 2 * v → n ≤ v * v)
-unfolding twice-sqrt-sticky
-root_side n v = let s = isqrt-below (size n) n in by_rest s n v (eqb (s * s) n) (root_below (size n) n (size-lt n)) (eqb-true (s * s) n)
+root_side : (n v : ℕ) → (2 * v ≤ root_twice n → v * v ≤ n) × (root_twice n ≤ 2 * v → n ≤ v * v)
+unfolding root_twice
+root_side n v = let s = root_below (size n) n in by_rest s n v (eqb (s * s) n) (whole_part n) (eqb-true (s * s) n)
 
 -- ---- `sqrt` of w steps takes the root of n = w * 2 ^ 151 * v * v, twice which is t, and rounds t / d. A step is then 2 * v, so that m * v is the middle between
 -- two values, of which m is the sum.
@@ -62,10 +49,10 @@ radicand w = w * 2 ^ 4393
 radicand_is : (w : ℕ) → radicand w ≡ w * 2 ^ 151 * (2 ^ 2121 * 2 ^ 2121)
 radicand_is w = sym (mul_assoc w (2 ^ 151) (2 ^ 2121 * 2 ^ 2121))
 
-sides : (w r y : ℕ) → Nearer r y (twice-sqrt-sticky (radicand w) * 2 ^ 149) (2 ^ 2272)
+sides : (w r y : ℕ) → Nearer r y (root_twice (radicand w) * 2 ^ 149) (2 ^ 2272)
     → (y < r → (r + y) * (r + y) ≤ 4 * w * 2 ^ 149) × (r < y → 4 * w * 2 ^ 149 ≤ (r + y) * (r + y))
 sides w r y h =
-    let t = twice-sqrt-sticky (radicand w) in
+    let t = root_twice (radicand w) in
     let side = root_side (radicand w) ((r + y) * 2 ^ 2121) in (
       λ l. side_low w (r + y) t (2 ^ 2121) (2 ^ 2272) (radicand w) (pow_pos 2121) refl (radicand_is w) side.0 (h.0 l),
       λ l. side_high w (r + y) t (2 ^ 2121) (2 ^ 2272) (radicand w) (pow_pos 2121) refl (radicand_is w) side.1 (h.1 l),
@@ -73,19 +60,19 @@ sides w r y h =
 
 -- ---- the root of a finite f32 is below 2 ^ 64, so it is no infinity
 
-twice_lt : (n v : ℕ) → n < v * v → twice-sqrt-sticky n < 2 * v
+twice_lt : (n v : ℕ) → n < v * v → root_twice n < 2 * v
 twice_lt n v h = lt_of_not-le λ g. not-le_of_lt h ((root_side n v).0 g)
 
 abbrev rooted : ℕ → Float
-rooted w = round binary32 false (twice-sqrt-sticky (radicand w)) (2 ^ 2272)
+rooted w = round binary32 false (root_twice (radicand w)) (2 ^ 2272)
 
-rooted_under : (w : ℕ) → w < 2 ^ 277 → grid binary32 (twice-sqrt-sticky (radicand w)) (2 ^ 2272) < overflow binary32
+rooted_under : (w : ℕ) → w < 2 ^ 277 → grid binary32 (root_twice (radicand w)) (2 ^ 2272) < overflow binary32
 rooted_under w h =
-    let t : twice-sqrt-sticky (radicand w) < 2 ^ 2336 = twice_lt (radicand w) (2 ^ 2335) (mul-lt-mul_of_pos_right h (pow_pos 4393)) in
-    lt_of_le_of_lt (grid_le binary32 (twice-sqrt-sticky (radicand w)) (2 ^ 2272) (2 ^ 213) (pow_pos 2272) (1, 213, lit< tt, refl) (mul-le-mul_right (2 ^ 149) (le_of_lt t))) (lit< tt)
+    let t : root_twice (radicand w) < 2 ^ 2336 = twice_lt (radicand w) (2 ^ 2335) (mul-lt-mul_of_pos_right h (pow_pos 4393)) in
+    lt_of_le_of_lt (grid_le binary32 (root_twice (radicand w)) (2 ^ 2272) (2 ^ 213) (pow_pos 2272) (1, 213, lit< tt, refl) (mul-le-mul_right (2 ^ 149) (le_of_lt t))) (lit< tt)
 
-rooted_value : (w : ℕ) → w < 2 ^ 277 → HasValue (rooted w) false (grid binary32 (twice-sqrt-sticky (radicand w)) (2 ^ 2272)) (2 ^ 149)
-rooted_value w h = round_value binary32 false (twice-sqrt-sticky (radicand w)) (2 ^ 2272) (rooted_under w h)
+rooted_value : (w : ℕ) → w < 2 ^ 277 → HasValue (rooted w) false (grid binary32 (root_twice (radicand w)) (2 ^ 2272)) (2 ^ 149)
+rooted_value w h = round_value binary32 false (root_twice (radicand w)) (2 ^ 2272) (rooted_under w h)
 
 none_is : none ≡ fin false 0 (pos 0)
 unfolding of_bits
@@ -105,11 +92,11 @@ steps_is (fin s m e) = refl
 rooted_nearest : (w : ℕ) (x : Float) → w < 2 ^ 277 → w ≡ steps x → IsRoot x (rooted w)
 rooted_nearest w x h e =
     let v = rooted_value w h in
-    let f = finite_of_value (rooted w) false (grid binary32 (twice-sqrt-sticky (radicand w)) (2 ^ 2272)) (2 ^ 149) v in (
+    let f = finite_of_value (rooted w) false (grid binary32 (root_twice (radicand w)) (2 ^ 2272)) (2 ^ 149) v in (
       f,
-      from_none (rooted w) (grid binary32 (twice-sqrt-sticky (radicand w)) (2 ^ 2272)) (2 ^ 149) (pow_pos 149) v,
+      from_none (rooted w) (grid binary32 (root_twice (radicand w)) (2 ^ 2272)) (2 ^ 149) (pow_pos 149) v,
       λ y fit fine from.
-          let n = round_nearest binary32 false (twice-sqrt-sticky (radicand w)) (2 ^ 2272) y (pow_pos 2272) f fit in
+          let n = round_nearest binary32 false (root_twice (radicand w)) (2 ^ 2272) y (pow_pos 2272) f fit in
           rw (← e, ← steps_is (rooted w), ← steps_is y) (sides w (steps_in binary32 (rooted w)) (steps_in binary32 y) n),
     )
 
@@ -131,7 +118,7 @@ above_zero m e t =
     let x = fin false (suc m) e in
     let w = steps x in
     let exact : suc m * up e * 2 ^ 149 ≡ w * down e = (fits_whole binary32 false (suc m) e t).exact in
-    subst (λ (n : ℕ). IsRoot x (round binary32 false (twice-sqrt-sticky n) (2 ^ 2272)))
+    subst (λ (n : ℕ). IsRoot x (round binary32 false (root_twice n) (2 ^ 2272)))
     (sym (scaled (suc m * up e) (down e) w (down_pos e) exact))
     (rooted_nearest w x (steps_lt (suc m * up e) (down e) w exact (below_top m e t)) refl)
 

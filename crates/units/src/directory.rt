@@ -52,7 +52,7 @@ impl Rule for KnownWidth {
 
 // The first fault of a table, table by table.
 fn first_fault<R: Rule>(rule: &R, directory: &[Stretch]) -> Option<Fault>
-    ensures { result ≡ first_fault (for_each (checks rule.now) 0 directory.now) }
+    ensures { result ≡ first_fault (for_each (R.checks rule.now) 0 directory.now) }
 {
     for (table, stretch) in directory.iter().enumerate() {
         if let Some(fault) = rule.fault(table, *stretch) {
@@ -64,7 +64,7 @@ fn first_fault<R: Rule>(rule: &R, directory: &[Stretch]) -> Option<Fault>
 
 // The first fault of a directory: of the number of tables, of a width, and then by the rule.
 pub(crate) fn directory_fault<R: Rule>(rule: &R, directory: &[Stretch]) -> Option<Fault>
-    ensures { result ≡ first_fault (directory_checks (checks rule.now) directory.now) }
+    ensures { result ≡ first_fault (directory_checks (R.checks rule.now) directory.now) }
 {
     if directory.len() > MOST_TABLES {
         return Some(Fault::new(Cause::UnitShape, 0));
@@ -77,7 +77,7 @@ pub(crate) fn directory_fault<R: Rule>(rule: &R, directory: &[Stretch]) -> Optio
 
 // The directory, or an empty one where it has a fault.
 pub(crate) fn checked<'a, R: Rule>(rule: &R, directory: &'a [Stretch]) -> &'a [Stretch]
-    ensures { result.now ≡ passing (checks rule.now) directory.now }
+    ensures { result.now ≡ passing (R.checks rule.now) directory.now }
 {
     match directory_fault(rule, directory) {
         None => directory,

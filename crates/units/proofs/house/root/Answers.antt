@@ -18,10 +18,10 @@ by_value x r t v =
     }
 
 pub returns-then-x-2 : goal.returns-then-x-2
-returns-then-x-2 c = by_value c.args.x _ c.well-formed.0.1 (search rules)
+returns-then-x-2 c = by_value c.args.x _ c.well_formed.0.1 (search rules)
 
 pub returns-else-x-2 : goal.returns-else-x-2
-returns-else-x-2 c = by_value c.args.x _ c.well-formed.0.1 (search rules)
+returns-else-x-2 c = by_value c.args.x _ c.well_formed.0.1 (search rules)
 
 pub returns-else-x : goal.returns-else-x
-returns-else-x c = by_value c.args.x _ c.well-formed.0.1 (search (rules, nan_is))
+returns-else-x c = by_value c.args.x _ c.well_formed.0.1 (search (rules, nan_is))

@@ -4,20 +4,20 @@ use Rattle.units.specs.Packed.{bits_in, number_of}
 use Rattle.units.proofs.Bits.{number_fits, number_more}
 use Rattle.units.proofs.packed.number_of.Goals as goal
 
-pub overflow-mul-number : goal.overflow-mul-number
-overflow-mul-number c = let small = number_fits c.args.bytes.now c.loop-byte.byte-index c.loop-byte-test.true c.requires in omega arith
+pub overflow_mul-number : goal.overflow_mul-number
+overflow_mul-number c = let small = number_fits c.args.bytes.now c.loop-byte.byte-index c.loop-byte-test.true c.requires in omega arith
 
-pub overflow-add-number : goal.overflow-add-number
-overflow-add-number c =
+pub overflow_add-number : goal.overflow_add-number
+overflow_add-number c =
     let small = number_fits c.args.bytes.now c.loop-byte.byte-index c.loop-byte-test.true c.requires in
-    let byte = c.type-inv.bytes c.loop-byte.byte-index in
+    let byte = c.type_inv.bytes c.loop-byte.byte-index in
     omega arith
 
 pub loop-byte-preserved : goal.loop-byte-preserved
 loop-byte-preserved c =
     let bs = c.args.bytes.now in
     let i = c.loop-byte.byte-index in
-    let fits = c.type-inv.bytes i in
+    let fits = c.type_inv.bytes i in
     let byte : get_or bs i 0 < 256 = omega arith in
     ap (λ (k : ℕ). c.loop-byte.number * 256 + k) c.from.ensures
     ∙ ap (λ (k : ℕ). k * 256 + get_or bs i 0) c.loop-byte.invariant

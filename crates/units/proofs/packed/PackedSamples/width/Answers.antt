@@ -9,6 +9,6 @@ pub returns : goal.returns
 returns c =
     let u = c.args.self.now in
     record {
-      value = c.width-of.ensures ∙ width_read (packed_checks (length u.bytes.now)) (λ s. packed_samples s.width (covered s u.bytes.now)) u.directory.now c.args.table u.ok;
+      value = c.width_of.ensures ∙ width_read (packed_checks (length u.bytes.now)) (λ s. packed_samples s.width (covered s u.bytes.now)) u.directory.now c.args.table u.ok;
       sound = packed_sound u.bytes.now u.directory.now u.ok;
     }

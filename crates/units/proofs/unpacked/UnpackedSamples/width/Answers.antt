@@ -9,6 +9,6 @@ pub returns : goal.returns
 returns c =
     let u = c.args.self.now in
     record {
-      value = c.width-of.ensures ∙ width_read (unpacked_checks u.words.now) (λ s. covered s u.words.now) u.directory.now c.args.table u.ok;
+      value = c.width_of.ensures ∙ width_read (unpacked_checks u.words.now) (λ s. covered s u.words.now) u.directory.now c.args.table u.ok;
       sound = unpacked_sound u.words.now u.directory.now u.ok;
     }
