@@ -122,9 +122,9 @@ pub struct Type2<'a> {
 impl Type2<'_> {
     // Writes the outputs for the first input to the front of the list, as far as it goes.
     pub fn eval<A: Arithmetic>(&self, unit: &mut A, inputs: &[f32], outputs: &mut [f32]) -> Counts
-        ensures counts { result ≡ counts_of (run (meaning unit.old) (stored self.now) inputs.now) }
-        ensures wrote { outputs.new ≡ over (run (meaning unit.old) (stored self.now) inputs.now).outputs outputs.old }
-        ensures keeps { meaning unit.new ≡ meaning unit.old }
+        ensures counts { result ≡ counts_of (run (A.meaning unit.old) (stored self.now) inputs.now) }
+        ensures wrote { outputs.new ≡ over (run (A.meaning unit.old) (stored self.now) inputs.now).outputs outputs.old }
+        ensures keeps { A.meaning unit.new ≡ A.meaning unit.old }
     {
         let x = clamp_first(self.domain, inputs);
         let factor = factor_of(unit, self.n, x);
@@ -141,8 +141,8 @@ impl Type2<'_> {
 
 // N = 1 hands the input on; else the arithmetic unit raises it.
 fn factor_of<A: Arithmetic>(unit: &mut A, n: f32, x: f32) -> f32
-    ensures value { result ≡ factor (meaning unit.old) n x }
-    ensures keeps { meaning unit.new ≡ meaning unit.old }
+    ensures value { result ≡ factor (A.meaning unit.old) n x }
+    ensures keeps { A.meaning unit.new ≡ A.meaning unit.old }
 {
     if n == 1.0 {
         x
