@@ -12,6 +12,6 @@ returns c =
     let ys = c.args.outputs.now in
     let end = c.min-end.result in
     let whole : end - 0 ≡ end = omega arith in
-    ap (λ (zs : List Float). zs ++ post_of 0 (end - 0) ys) (c.clamp-output.ensures ∙ ap (λ (n : ℕ). clamp_all ps (take n ys)) whole)
+    ap (λ (zs : List Float). zs ++ post_of 0 (end - 0) ys) (c.clamp_output.ensures ∙ ap (λ (n : ℕ). clamp_all ps (take n ys)) whole)
     ∙ ap (λ (zs : List Float). clamp_all ps (take end ys) ++ zs) (Post-is 0 end ys (omega arith))
     ∙ front_clamped ps ys c.args.count end c.min-end.ensures

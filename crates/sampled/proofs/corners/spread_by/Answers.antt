@@ -9,8 +9,8 @@ use Rattle.sampled.proofs.corners.spread_by.Goals as goal
 pub loop-c-init : goal.loop-c-init
 loop-c-init c = (c.told-list, spread_none c.args.key c.args.stride (take (c.args.count - 0) c.args.list.now) _)
 
-pub put-split-end-requires : goal.put-split-end-requires
-put-split-end-requires c =
+pub put_split-end-requires : goal.put_split-end-requires
+put_split-end-requires c =
     let cs = take (c.args.count - 0) c.args.list.now in
     let all : c.args.count ≡ c.args.count - 0 = omega arith in
     let low : OffsetsBelow (2 ^ 63) cs = subst (λ (n : ℕ). OffsetsBelow (2 ^ 63) (take n c.args.list.now)) all c.requires.offsets in
@@ -24,8 +24,8 @@ put-split-end-requires c =
 
 pub loop-c-preserved : goal.loop-c-preserved
 loop-c-preserved c = (
-  c.put-split-end.auto.into ∙ c.loop-c.invariant.0,
-  spread_more c.args.key c.args.stride (take (c.args.count - 0) c.args.list.now) _ _ _ _ _ _ c.loop-c-test.true c.put-split-end.ensures.value c.put-split-end.ensures.count c.loop-c.invariant.1,
+  c.put_split-end.auto.into ∙ c.loop-c.invariant.0,
+  spread_more c.args.key c.args.stride (take (c.args.count - 0) c.args.list.now) _ _ _ _ _ _ c.loop-c-test.true c.put_split-end.ensures.value c.put_split-end.ensures.count c.loop-c.invariant.1,
 )
 
 pub returns : goal.returns

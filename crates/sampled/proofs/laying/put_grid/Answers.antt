@@ -16,7 +16,7 @@ pub loop-size-init : goal.loop-size-init
 loop-size-init c = grid_none c.args.list.now c.args.at c.args.sizes.now
 
 pub loop-size-preserved : goal.loop-size-preserved
-loop-size-preserved c = grid_more c.args.list.now c.args.at c.args.sizes.now c.loop-size.list c.loop-size.size-index c.loop-size.end _ (omega arith) c.loop-size-test.true c.last-point.ensures c.loop-size.invariant
+loop-size-preserved c = grid_more c.args.list.now c.args.at c.args.sizes.now c.loop-size.list c.loop-size.size-index c.loop-size.end _ (omega arith) c.loop-size-test.true c.last_point.ensures c.loop-size.invariant
 
 pub returns : goal.returns
 returns c = grid_all c.args.list.now c.args.at c.args.sizes.now c.loop-size.list c.loop-size.size-index c.loop-size.end (omega arith) c.loop-size.auto.size-index-end c.loop-size-test.false c.loop-size.invariant

@@ -12,7 +12,7 @@ loop-i-preserved c =
     let i = c.loop-i.i in
     let n = length-map xs (cut_unsigned 32) in
     let h : i < length xs = omega arith in
-    let same : c.cut-u32.result ≡ get_or (sizes_in xs) i 0 = c.cut-u32.ensures ∙ sym (get_or-map (cut_unsigned 32) xs i nan 0 h) in
+    let same : c.cut_u32.result ≡ get_or (sizes_in xs) i 0 = c.cut_u32.ensures ∙ sym (get_or-map (cut_unsigned 32) xs i nan 0 h) in
     ap (λ (v : ℕ). set c.loop-i.into i v) same
     ∙ ap (λ (zs : List ℕ). set zs i (get_or (sizes_in xs) i 0)) c.loop-i.invariant
     ∙ over_more (sizes_in xs) c.args.into.now i 0 (omega arith) (omega arith)

@@ -11,7 +11,7 @@ returns-in-None g c =
 
 pub loop-i-preserved : goal.loop-i-preserved
 loop-i-preserved g c =
-    added_more (g.S.Samples.tables c.args.samples.now) c.args.table c.args.corner.weight c.args.corner.offset c.args.sums.now c.loop-i.sums c.loop-i.i _ _ (omega arith) c.in-Some.ensures c.nearest-u32.ensures c.loop-i.invariant
+    added_more (g.S.Samples.tables c.args.samples.now) c.args.table c.args.corner.weight c.args.corner.offset c.args.sums.now c.loop-i.sums c.loop-i.i _ _ (omega arith) c.in-Some.ensures c.nearest_u32.ensures c.loop-i.invariant
 
 pub returns : goal.returns
 returns g c =

@@ -5,10 +5,10 @@ use Rattle.sampled.proofs.sums.put_decoded.Goals as goal
 
 pub loop-i-preserved : goal.loop-i-preserved
 loop-i-preserved c =
-    decoded_more c.args.top c.args.decode.now c.args.sums.now c.requires c.args.outputs.now c.loop-i.outputs c.loop-i.i _ _ (omega arith) (omega arith) c.pair-at-pair.ensures c.interpolate.ensures c.loop-i.invariant
+    decoded_more c.args.top c.args.decode.now c.args.sums.now c.requires c.args.outputs.now c.loop-i.outputs c.loop-i.i _ _ (omega arith) (omega arith) c.pair_at-pair.ensures c.interpolate.ensures c.loop-i.invariant
 
 pub returns : goal.returns
 returns c = decoded_all c.args.top c.args.decode.now c.args.sums.now c.requires c.args.outputs.now c.loop-i.outputs c.loop-i.i (omega arith) c.loop-i.invariant
 
-pub pair-at-pair-requires : goal.pair-at-pair-requires
-pair-at-pair-requires c = pairs_room c.args.decode.now c.loop-i.i (omega arith)
+pub pair_at-pair-requires : goal.pair_at-pair-requires
+pair_at-pair-requires c = pairs_room c.args.decode.now c.loop-i.i (omega arith)

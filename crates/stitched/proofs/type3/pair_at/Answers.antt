@@ -8,7 +8,7 @@ use Rattle.stitched.proofs.type3.pair_at.Goals as goal
 pub returns-then-i-numbers : goal.returns-then-i-numbers
 returns-then-i-numbers c = record {
   pair = pairs_at c.args.numbers.now c.args.i (nan, nan) (omega arith);
-  single = (c.type-inv.numbers (2 * c.args.i), c.type-inv.numbers (2 * c.args.i + 1));
+  single = (c.type_inv.numbers (2 * c.args.i), c.type_inv.numbers (2 * c.args.i + 1));
 }
 
 pub returns-else-i-numbers : goal.returns-else-i-numbers

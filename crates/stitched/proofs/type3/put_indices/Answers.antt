@@ -22,7 +22,7 @@ pub loop-index-init : goal.loop-index-init
 loop-index-init c = indices_none c.args.list.now c.args.at c.args.indices.now
 
 pub loop-index-preserved : goal.loop-index-preserved
-loop-index-preserved c = indices_more c.args.list.now c.args.at c.args.indices.now c.loop-index.list c.loop-index.index-index c.loop-index.end _ (omega arith) c.loop-index-test.true c.nearest-u64-to-f32.ensures c.loop-index.invariant
+loop-index-preserved c = indices_more c.args.list.now c.args.at c.args.indices.now c.loop-index.list c.loop-index.index-index c.loop-index.end _ (omega arith) c.loop-index-test.true c.nearest_u64_to_f32.ensures c.loop-index.invariant
 
 pub returns : goal.returns
 returns c = indices_all c.args.list.now c.args.at c.args.indices.now c.loop-index.list c.loop-index.index-index c.loop-index.end (omega arith) c.loop-index.auto.index-index-end c.loop-index-test.false c.loop-index.invariant

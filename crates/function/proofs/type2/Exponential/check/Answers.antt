@@ -9,15 +9,15 @@ use Rattle.function.proofs.type2.Exponential.check.Goals as goal
 pub returns : goal.returns
 returns c =
     let e = c.args.self.now in
-    let counts = sym c.counts-fit.ensures ∙ c.in-ok-demand.ensures in
-    let finite = sym c.all-finite.ensures ∙ c.in-ok-demand-2.ensures in
-    let rise = sym c.all-rise.ensures ∙ c.in-ok-demand-3.ensures in
-    let agree = sym c.counts-agree.ensures ∙ c.in-ok-demand-4.ensures in
+    let counts = sym c.counts_fit.ensures ∙ c.in_ok-demand.ensures in
+    let finite = sym c.all_finite.ensures ∙ c.in_ok-demand-2.ensures in
+    let rise = sym c.all_rise.ensures ∙ c.in_ok-demand-3.ensures in
+    let agree = sym c.counts_agree.ensures ∙ c.in_ok-demand-4.ensures in
     let all : passes (given_checks c.args.index e) ≡ true = and_from _ _ counts (and_from _ _ finite (and_from _ _ rise (and_from _ _ agree refl))) in
     let n = numbers_length (exponential_of e) in
     let own = length-append (c0_of e) (c1_of e ++ (e.n ∷ [])) in
     let last = length-append (c1_of e) (e.n ∷ []) in
-    let c0 = ap length c.c0-numbers.ensures in
-    let c1 = ap length c.c1-numbers.ensures in
-    let sum : 2 * length e.domain.now + 2 * length e.range.now + (length c.c0-numbers.result.now + length c.c1-numbers.result.now) + 1 ≡ length (numbers_of (exponential_of e)) = omega arith in
+    let c0 = ap length c.c0_numbers.ensures in
+    let c1 = ap length c.c1_numbers.ensures in
+    let sum : 2 * length e.domain.now + 2 * length e.range.now + (length c.c0_numbers.result.now + length c.c1_numbers.result.now) + 1 ≡ length (numbers_of (exponential_of e)) = omega arith in
     judged_passes (given_checks c.args.index e) _ _ all sum

@@ -18,17 +18,17 @@ returns g c =
     let c1 = f.c1.now in
     let ps = pairs_of f.range.now in
     let old = c.args.outputs.now in
-    let t = c.factor-of-factor.result in
+    let t = c.factor_of-factor.result in
     let new = mixed t c0 c1 in
-    let same : t ≡ factor μ f.n _ = c.factor-of-factor.ensures.value ∙ ap (factor μ f.n) c.clamp-first-x.ensures in
+    let same : t ≡ factor μ f.n _ = c.factor_of-factor.ensures.value ∙ ap (factor μ f.n) c.clamp_first-x.ensures in
     let count : c.min-count.result ≡ length new = c.min-count.ensures ∙ sym (mixed_length t c0 c1) in
     record {
       counts = ap (λ (n : ℕ). record { outputs = n; steps = 1; drops = 0 }) (count ∙ sym (length_clamp_all ps new) ∙ ap (λ (s : Float). length (clamp_all ps (mixed s c0 c1))) same);
       wrote =
-          c.clamp-front.ensures
+          c.clamp_front.ensures
           ∙ ap (λ (n : ℕ). over (clamp_all ps (take n c.mix.new.outputs)) c.mix.new.outputs) count
           ∙ ap (λ (zs : List Float). over (clamp_all ps (take (length new) zs)) zs) c.mix.ensures
           ∙ over_clamped ps new old
           ∙ ap (λ (s : Float). over (clamp_all ps (mixed s c0 c1)) old) same;
-      keeps = c.factor-of-factor.ensures.keeps;
+      keeps = c.factor_of-factor.ensures.keeps;
     }

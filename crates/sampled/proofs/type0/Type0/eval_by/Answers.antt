@@ -9,8 +9,8 @@ use Rattle.sampled.specs.Sampled.{sizes_fit, sizes_in, outputs_after}
 use Rattle.sampled.proofs.Evaluating.{evaluable_shape, evaluable_fit, lacking, summed}
 use Rattle.sampled.proofs.type0.Type0.eval_by.Goals as goal
 
-pub add-up-requires : goal.add-up-requires
-add-up-requires g c =
+pub add_up-requires : goal.add_up-requires
+add_up-requires g c =
     let t = c.args.self.now in
     let n = length c.args.inputs.now in
     let s = evaluable_shape t n c.requires.evaluable in
@@ -24,16 +24,16 @@ add-up-requires g c =
       outputs = omega (arith, many, s.outputs);
     }
 
-pub put-decoded-requires : goal.put-decoded-requires
-put-decoded-requires g c =
+pub put_decoded-requires : goal.put_decoded-requires
+put_decoded-requires g c =
     let n = length (pairs_of c.args.self.now.decode.now) in
-    sym (c.add-up.auto.sums ∙ ap length c.requires.sums ∙ length-replicate n sampled.zero)
+    sym (c.add_up.auto.sums ∙ ap length c.requires.sums ∙ length-replicate n sampled.zero)
 
 pub returns-in-Ok : goal.returns-in-Ok
 returns-in-Ok g c =
     let told = c.in-Ok.ensures in
     let done = summed (g.S.Samples.tables c.args.samples.now) c.args.index c.args.self.now c.args.inputs.now c.args.sizes.now c.args.sums.now c.requires.evaluable c.requires.sizes c.requires.sums
-    c.add-up.new.sums c.put-decoded.new.outputs c.clamp-front.new.outputs c.args.outputs.now c.largest-sample-top.result c.in-Ok.visited told.sums told.visited c.largest-sample-top.ensures c.put-decoded.ensures c.clamp-front.ensures in
+    c.add_up.new.sums c.put_decoded.new.outputs c.clamp_front.new.outputs c.args.outputs.now c.largest_sample-top.result c.in-Ok.visited told.sums told.visited c.largest_sample-top.ensures c.put_decoded.ensures c.clamp_front.ensures in
     record { reply = done.0; wrote = done.1 }
 
 pub returns-in-Err : goal.returns-in-Err

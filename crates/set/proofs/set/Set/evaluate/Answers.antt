@@ -32,8 +32,8 @@ by_kind r used (Exponential c1 n) e t p =
 pub type2-requires : goal.type2-requires
 type2-requires g c =
     let s = c.args.self.now in
-    let e = c.in-ok-record.ensures in
-    let r = c.in-ok-record.record in
+    let e = c.in_ok-record.ensures in
+    let r = c.in_ok-record.record in
     let p = subst (λ (q : Record). placed s.used q ≡ true) (sym e.0) (placed_is s c.args.index r e.1) in
     let t = rising s.used r p in
     by_kind r s.used r.kind refl t t.kind
@@ -42,8 +42,8 @@ pub returns : goal.returns
 returns g c =
     let s = c.args.self.now in
     let i = c.args.index in
-    let e = c.in-ok-record.ensures in
-    let r = c.in-ok-record.record in
+    let e = c.in_ok-record.ensures in
+    let r = c.in_ok-record.record in
     let μ = g.A.Arithmetic.meaning c.args.unit.now in
     let xs = c.args.inputs.now in
     let ys = c.args.outputs.now in

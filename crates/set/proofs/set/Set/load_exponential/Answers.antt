@@ -5,29 +5,29 @@ use Rattle.numeric.proofs.Appending.{laid_is}
 use Rattle.set.proofs.Loading.{refused, room, new_records, still, new_model, new_index}
 use Rattle.set.proofs.set.Set.load_exponential.Goals as goal
 
-pub returns-in-err-judge-exponential : goal.returns-in-err-judge-exponential
-returns-in-err-judge-exponential c =
-    let p = err_from_is_err_and c.from-residual.result c.from-residual.ensures.1 in
-    refused c.args.self.now (exponential_of c.args.given.now) c.from-residual.result _ _ _ p.1 p.2 c.in-err-judge-exponential.ensures
+pub returns-in_err-judge_exponential : goal.returns-in_err-judge_exponential
+returns-in_err-judge_exponential c =
+    let p = err_from_is_err_and c.from_residual.result c.from_residual.ensures.1 in
+    refused c.args.self.now (exponential_of c.args.given.now) c.from_residual.result _ _ _ p.1 p.2 c.in_err-judge_exponential.ensures
 
-pub lay-exponential-record-requires : goal.lay-exponential-record-requires
-lay-exponential-record-requires c =
-    let t = room c.args.self.now (exponential_of c.args.given.now) _ c.in-ok-judge-exponential.ensures in
+pub lay_exponential-record-requires : goal.lay_exponential-record-requires
+lay_exponential-record-requires c =
+    let t = room c.args.self.now (exponential_of c.args.given.now) _ c.in_ok-judge_exponential.ensures in
     record { index = t.0; numbers = t.1 }
 
 pub invariant-of-self : goal.invariant-of-self
 invariant-of-self c =
-    let e = c.lay-exponential-record.ensures in
-    still c.args.self.now (exponential_of c.args.given.now) _ c.in-ok-judge-exponential.ensures c.lay-exponential-record.new.self c.lay-exponential-record.result e.value e.records e.numbers e.instructions
+    let e = c.lay_exponential-record.ensures in
+    still c.args.self.now (exponential_of c.args.given.now) _ c.in_ok-judge_exponential.ensures c.lay_exponential-record.new.self c.lay_exponential-record.result e.value e.records e.numbers e.instructions
 
 pub returns : goal.returns
 returns c =
     let s = c.args.self.now in
     let f = exponential_of c.args.given.now in
-    let told = c.in-ok-judge-exponential.ensures in
-    let e = c.lay-exponential-record.ensures in
-    let m = c.lay-exponential-record.new.self in
-    let r = c.lay-exponential-record.result in
+    let told = c.in_ok-judge_exponential.ensures in
+    let e = c.lay_exponential-record.ensures in
+    let m = c.lay_exponential-record.new.self in
+    let r = c.lay_exponential-record.result in
     record {
       reply = new_index s f _ told;
       after = new_model s f _ told m r e.value e.records e.numbers e.instructions;

@@ -9,22 +9,22 @@ use Rattle.stitched.proofs.Single.{only_stretch}
 use Rattle.stitched.proofs.type3.Type3.choose.Goals as goal
 
 pub encoded-requires : goal.encoded-requires
-encoded-requires c = omega (arith, c.find-interval-stretch.ensures.place, pick_within c.args.self.now.bounds.now c.clamp-first-x.result)
+encoded-requires c = omega (arith, c.find_interval-stretch.ensures.place, pick_within c.args.self.now.bounds.now c.clamp_first-x.result)
 
 pub returns : goal.returns
 returns c =
     let t = c.args.self.now in
     let bounds = t.bounds.now in
     let encode = pairs_of t.encode.now in
-    let d = c.pair-at-domain.ensures.pair in
-    let x = c.clamp-first-x.ensures in
-    let i = c.find-interval-stretch.ensures.place ∙ ap (pick bounds) x in
+    let d = c.pair_at-domain.ensures.pair in
+    let x = c.clamp_first-x.ensures in
+    let i = c.find_interval-stretch.ensures.place ∙ ap (pick bounds) x in
     let part = c.part.ensures ∙ ap (λ (n : ℕ). cut_unsigned 32 (get_or t.parts.now n nan)) i in
     let input = c.encoded.ensures ∙ (λ j. part_input (d j) bounds encode (x j) (i j)) in
     record {
       chosen = λ j. record { stretch = i j; part = part j; input = input j };
       only =
-          only_stretch (pairs_of t.domain.now) bounds c.args.inputs.now c.clamp-first-x.result c.find-interval-stretch.result
-          (subst (λ (p : Interval). T (fits binary32 p.0)) d c.pair-at-domain.ensures.single.0)
-          (subst (λ (p : Interval). T (fits binary32 p.1)) d c.pair-at-domain.ensures.single.1) x c.find-interval-stretch.ensures.only;
+          only_stretch (pairs_of t.domain.now) bounds c.args.inputs.now c.clamp_first-x.result c.find_interval-stretch.result
+          (subst (λ (p : Interval). T (fits binary32 p.0)) d c.pair_at-domain.ensures.single.0)
+          (subst (λ (p : Interval). T (fits binary32 p.1)) d c.pair_at-domain.ensures.single.1) x c.find_interval-stretch.ensures.only;
     }
