@@ -55,7 +55,7 @@ impl Type0<'_> {
         requires sizes { length sizes.now ≡ length inputs.now }
         requires fit { sizes_fit sizes.now (length sums.old) ≡ true }
         requires outputs { length sums.old ≤ 32 }
-        ensures sums { Summed (add_corners (tables samples.now) self.now.table (corners_at (pairs_of self.now.domain.now) sizes.now (pairs_of self.now.encode.now) (length sums.old) (clamp_all (pairs_of self.now.domain.now) inputs.now)) sums.old) result sums.new }
+        ensures sums { Summed (add_corners (S.tables samples.now) self.now.table (corners_at (pairs_of self.now.domain.now) sizes.now (pairs_of self.now.encode.now) (length sums.old) (clamp_all (pairs_of self.now.domain.now) inputs.now)) sums.old) result sums.new }
         ensures few { IfOk result (λ n. n ≤ 16) }
         ensures visited { IfOk result (λ n. n ≡ length (corners_at (pairs_of self.now.domain.now) sizes.now (pairs_of self.now.encode.now) (length sums.old) (clamp_all (pairs_of self.now.domain.now) inputs.now))) }
     {
@@ -80,8 +80,8 @@ impl Type0<'_> {
         requires evaluable { evaluable_by self.now (length inputs.now) ≡ true }
         requires sizes { sizes.now ≡ sizes_in self.now.sizes.now }
         requires sums { sums.old ≡ replicate (length (pairs_of self.now.decode.now)) zero }
-        ensures reply { result ≡ reply_of (loaded_answer (tables samples.now) index self.now inputs.now) }
-        ensures wrote { outputs.new ≡ outputs_after (loaded_answer (tables samples.now) index self.now inputs.now) outputs.old }
+        ensures reply { result ≡ reply_of (loaded_answer (S.tables samples.now) index self.now inputs.now) }
+        ensures wrote { outputs.new ≡ outputs_after (loaded_answer (S.tables samples.now) index self.now inputs.now) outputs.old }
     {
         match self.add_up(samples, sizes, inputs, sums) {
             Ok(visited) => {
@@ -110,8 +110,8 @@ impl Type0<'_> {
         inputs: &[f32],
         outputs: &mut [f32],
     ) -> Result<Counts, Fault>
-        ensures reply { result ≡ reply_of (loaded_answer (tables samples.now) index self.now inputs.now) }
-        ensures wrote { outputs.new ≡ outputs_after (loaded_answer (tables samples.now) index self.now inputs.now) outputs.old }
+        ensures reply { result ≡ reply_of (loaded_answer (S.tables samples.now) index self.now inputs.now) }
+        ensures wrote { outputs.new ≡ outputs_after (loaded_answer (S.tables samples.now) index self.now inputs.now) outputs.old }
     {
         let count = inputs.len();
         let Some(sizes) = self.own_sizes(count) else {

@@ -18,7 +18,7 @@ fn add_corner<S: Samples>(
     sums: &mut [f32],
 ) -> Result<(), usize>
     requires { corner.offset + length sums.old < 2 ^ 64 }
-    ensures { Summed (add_corner (tables samples.now) table corner.weight corner.offset sums.old) result sums.new }
+    ensures { Summed (add_corner (S.tables samples.now) table corner.weight corner.offset sums.old) result sums.new }
 {
     for i in 0..sums.len() {
         let place = corner.offset + i;
@@ -39,7 +39,7 @@ pub(crate) fn add_corners<S: Samples>(
 ) -> Result<(), usize>
     requires offsets { OffsetsBelow (2 ^ 63) list.now }
     requires outputs { length sums.old ≤ 32 }
-    ensures { Summed (add_corners (tables samples.now) table list.now sums.old) result sums.new }
+    ensures { Summed (add_corners (S.tables samples.now) table list.now sums.old) result sums.new }
 {
     for c in list {
         add_corner(samples, table, *c, sums)?;
@@ -49,7 +49,7 @@ pub(crate) fn add_corners<S: Samples>(
 
 // The largest sample of the table, 0 where there is no table.
 pub(crate) fn largest_sample<S: Samples>(samples: &S, table: usize) -> f32
-    ensures { result ≡ top_of (width_in (tables samples.now) table) }
+    ensures { result ≡ top_of (width_in (S.tables samples.now) table) }
 {
     match samples.width(table) {
         Some(width) => nearest_u32(width.largest()),

@@ -120,7 +120,7 @@ impl<'c> Sampled<'c> {
     }
 
     pub fn has_table<S: Samples>(&self, samples: &S) -> bool
-        ensures { result ≡ is_some (width_in (tables samples.now) self.now.table) }
+        ensures { result ≡ is_some (width_in (S.tables samples.now) self.now.table) }
     {
         samples.width(self.table).is_some()
     }

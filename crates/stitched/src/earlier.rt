@@ -19,13 +19,13 @@ pub trait Earlier {
 
 // Whether a function with that index is loaded and takes one input.
 fn is_part<E: Earlier>(earlier: &E, index: usize) -> bool
-    ensures { result ≡ is_part (known earlier.now) index }
+    ensures { result ≡ is_part (E.known earlier.now) index }
 {
     index < earlier.count() && earlier.inputs(index) == 1
 }
 
 pub(crate) fn parts_loaded<E: Earlier>(earlier: &E, parts: &[usize]) -> bool
-    ensures { result ≡ every (is_part (known earlier.now)) parts.now }
+    ensures { result ≡ every (is_part (E.known earlier.now)) parts.now }
 {
     for part in parts {
         if !is_part(earlier, *part) {
@@ -37,7 +37,7 @@ pub(crate) fn parts_loaded<E: Earlier>(earlier: &E, parts: &[usize]) -> bool
 
 // The depth of the deepest part.
 pub(crate) fn deepest<E: Earlier>(earlier: &E, parts: &[usize]) -> usize
-    ensures { result ≡ deepest (known earlier.now) parts.now }
+    ensures { result ≡ deepest (E.known earlier.now) parts.now }
 {
     let mut depth: usize = 0;
     for part in parts {

@@ -84,7 +84,7 @@ impl Stitched<'_> {
 
     // What the function needs, or the fault for which it cannot be loaded after the earlier ones.
     pub fn check<E: Earlier>(&self, earlier: &E) -> Result<Needs, Fault>
-        ensures { result ≡ judged (first_fault (stitched_checks (known earlier.now) self.now.domain.now self.now.range.now self.now.parts.now self.now.bounds.now self.now.encode.now)) (needs_of (known earlier.now) self.now.domain.now self.now.range.now self.now.parts.now self.now.bounds.now self.now.encode.now) }
+        ensures { result ≡ judged (first_fault (stitched_checks (E.known earlier.now) self.now.domain.now self.now.range.now self.now.parts.now self.now.bounds.now self.now.encode.now)) (needs_of (E.known earlier.now) self.now.domain.now self.now.range.now self.now.parts.now self.now.bounds.now self.now.encode.now) }
     {
         let index = earlier.count();
         let depth = deepest(earlier, self.parts);

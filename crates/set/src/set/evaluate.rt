@@ -58,9 +58,9 @@ impl<'a> Set<'a> {
         inputs: &[f32],
         outputs: &mut [f32],
     ) -> Result<Counts, Fault>
-        ensures reply { result ≡ reply_of (answer (model_of self.now).functions (meaning unit.old) index inputs.now (length outputs.old)) }
-        ensures wrote { outputs.new ≡ written (answer (model_of self.now).functions (meaning unit.old) index inputs.now (length outputs.old)) outputs.old }
-        ensures keeps { meaning unit.new ≡ meaning unit.old }
+        ensures reply { result ≡ reply_of (answer (model_of self.now).functions (A.meaning unit.old) index inputs.now (length outputs.old)) }
+        ensures wrote { outputs.new ≡ written (answer (model_of self.now).functions (A.meaning unit.old) index inputs.now (length outputs.old)) outputs.old }
+        ensures keeps { A.meaning unit.new ≡ A.meaning unit.old }
     {
         let record = self.fitting(index, inputs.len(), outputs.len())?;
         match record.kind {

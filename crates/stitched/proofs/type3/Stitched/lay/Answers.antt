@@ -11,5 +11,5 @@ returns c =
     let at = c.args.at in
     let own = own_numbers s.parts.now s.bounds.now s.encode.now in
     let room = leb-true (length own) (length list - at) (sym c.if-not-fit_in.ensures) in
-    own_laid list at s.parts.now s.bounds.now s.encode.now c.put_indices-bounds.new.list c.put_indices-bounds.result c.put_encode.new.list c.put_encode.result c.put_pairs.new.list c.put_pairs.result
-    (omega arith) c.put_indices-bounds.ensures c.put_encode.ensures c.put_pairs.ensures
+    own_laid list at s.parts.now s.bounds.now s.encode.now c.put_indices-bounds.new.list c.put_indices-bounds.result c.put-encode.new.list c.put-encode.result c.put_pairs.new.list c.put_pairs.result
+    (omega arith) c.put_indices-bounds.ensures c.put-encode.ensures c.put_pairs.ensures
