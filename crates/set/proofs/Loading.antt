@@ -79,19 +79,14 @@ module _ (s : Set) (f : Function) (k : ℕ) (told : Ok k ≡ judged (first_fault
         ∙ functions_grown s.memory.records.now s.memory.numbers.now s.count s.used f room.0 room.1 s.inside
 
     pub still : ((s.count + 1 ≤ length m'.records.now) × (r.end ≤ length m'.numbers.now) × (s.laid ≤ length m'.instructions.now))
-        × ((every (placed r.end) (take (s.count + 1) m'.records.now) ≡ true)
-        × ((admitted [] (functions_in (take (s.count + 1) m'.records.now) (take r.end m'.numbers.now)) ≡ true) × Unit {0}))
+        × (every (placed r.end) (take (s.count + 1) m'.records.now) ≡ true)
+        × (admitted [] (functions_in (take (s.count + 1) m'.records.now) (take r.end m'.numbers.now)) ≡ true)
     still =
         let same = ap length instructions in (
           (omega (arith, room.0, records_length), omega (arith, room.1, numbers_length, new_end), omega (arith, s.fits.2, same)),
-          (
-            (λ j. every (placed (is j).end) (take (s.count + 1) (new_records j)))
-                ∙ placed_grown s.memory.records.now s.memory.numbers.now s.count s.used f room.0 room.1 s.inside,
-            (
-              ap (admitted []) grown ∙ admitted_more [] (functions_of s) f s.lawful (passes_front (function_checks (functions_of s) f) _ passed),
-              tt,
-            ),
-          ),
+          (λ j. every (placed (is j).end) (take (s.count + 1) (new_records j)))
+              ∙ placed_grown s.memory.records.now s.memory.numbers.now s.count s.used f room.0 room.1 s.inside,
+          ap (admitted []) grown ∙ admitted_more [] (functions_of s) f s.lawful (passes_front (function_checks (functions_of s) f) _ passed),
         )
 
     free_left : left (lengths m') (entries (s.count + 1) r.end s.laid) ≡ left (model_of s).free (needs f)

@@ -15,10 +15,11 @@ lay_exponential-record-requires c =
     let t = room c.args.self.now (exponential_of c.args.given.now) _ c.in_ok-judge_exponential.ensures in
     record { index = t.0; numbers = t.1 }
 
-pub invariant-of-self : goal.invariant-of-self
-invariant-of-self c =
+pub invariant_of-self : goal.invariant_of-self
+invariant_of-self c =
     let e = c.lay_exponential-record.ensures in
-    still c.args.self.now (exponential_of c.args.given.now) _ c.in_ok-judge_exponential.ensures c.lay_exponential-record.new.self c.lay_exponential-record.result e.value e.records e.numbers e.instructions
+    let p = still c.args.self.now (exponential_of c.args.given.now) _ c.in_ok-judge_exponential.ensures c.lay_exponential-record.new.self c.lay_exponential-record.result e.value e.records e.numbers e.instructions in
+    record { fits = p.0; inside = p.1; lawful = p.2 }
 
 pub returns : goal.returns
 returns c =
