@@ -1,5 +1,5 @@
 -- Laws of clamping the first input and the front of a list. Assumes nothing.
-use Rattle.std.proofs.Common.{◌≡◌, ℕ, zero, suc, ◌<◌, ◌≤◌, min, List, [], ◌∷◌, ◌++◌, length, get_or, take, drop, sym, refl, ap, ◌∙◌, arith, length-take}
+use Rattle.std.proofs.Common.{◌≡◌, ℕ, zero, suc, ◌≤◌, min, List, [], ◌∷◌, ◌++◌, length, get_or, take, drop, sym, refl, ap, ◌∙◌, arith, length-take}
 use lib.Ieee.{Float, nan}
 use Rattle.numeric.specs.Interval.{Interval, clamp, clamp_all}
 use Rattle.numeric.specs.Lists.{pairs_of}

@@ -1,11 +1,11 @@
 -- What loading needs, where all checks pass. Assumes nothing.
-use Rattle.std.proofs.Common.{◌≡◌, ℕ, ◌+◌, ◌*◌, true, List, [], ◌∷◌, ◌++◌, length, Some, None, Ok, Err, Option, sym, refl, ap, ◌∙◌, arith, length-append}
+use Rattle.std.proofs.Common.{◌≡◌, ℕ, ◌+◌, ◌*◌, true, List, ◌++◌, length, Some, None, Ok, Err, Option, sym, refl, ap, ◌∙◌, arith, length-append}
 use Rattle.fault.specs.declared.cause.Fault.{Fault}
 use Rattle.fault.specs.Checks.{Check, first_fault, passes}
 use Rattle.fault.proofs.Passing.{passes_none, none_passes, passes_append, fault_append}
 use Rattle.numeric.specs.Lists.{flat}
 use Rattle.numeric.proofs.Flat.{length_flat}
-use Rattle.function.specs.Function.{Function, Body, exponential}
+use Rattle.function.specs.Function.{Function}
 use Rattle.function.specs.Numbers.{numbers_of, body_numbers, judged}
 
 pub judged_passes : {A : Type 0} (cs : List Check) (k n : A) → passes cs ≡ true → k ≡ n → Ok k ≡ judged (first_fault cs) n

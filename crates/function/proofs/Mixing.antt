@@ -1,5 +1,5 @@
 -- Laws of the outputs of an exponential function. Assumes nothing.
-use Rattle.std.proofs.Common.{◌≡◌, ℕ, zero, suc, ◌<◌, ◌≤◌, min, List, [], ◌∷◌, length, get_or, refl, ap, arith}
+use Rattle.std.proofs.Common.{◌≡◌, ℕ, zero, suc, ◌<◌, min, List, [], ◌∷◌, length, get_or, refl, arith}
 use lib.Ieee.{Float, nan, binary32, add, sub, mul}
 use Rattle.function.specs.Exponential.{mixed}
 

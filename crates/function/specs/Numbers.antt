@@ -1,5 +1,5 @@
 -- The number entries of a function, in their order in the set's list. Assumes nothing.
-use Rattle.std.specs.Prelude.{ℕ, List, [], ◌∷◌, ◌++◌, Some, None, Ok, Err, Option, Result, Float}
+use Rattle.std.specs.Prelude.{List, [], ◌∷◌, ◌++◌, Some, None, Ok, Err, Option, Result, Float}
 use Rattle.fault.specs.declared.cause.Fault.{Fault}
 use Rattle.numeric.specs.Lists.{flat}
 use Rattle.function.specs.Function.{Function, Body, exponential}

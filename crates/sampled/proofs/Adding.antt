@@ -1,7 +1,7 @@
 -- Laws of sums over corners. Assumes nothing.
-use Rattle.std.proofs.Common.{◌≡◌, ℕ, zero, suc, ◌+◌, ◌*◌, ◌<◌, ◌≤◌, List, [], ◌∷◌, ◌++◌, length, get_or, take, drop, set, pos, Some, None, Ok, Err, Option, Result, sym, refl, ap, ◌∙◌, subst, arith}
+use Rattle.std.proofs.Common.{◌≡◌, ℕ, suc, ◌+◌, ◌<◌, ◌≤◌, List, [], ◌∷◌, ◌++◌, length, get_or, take, drop, set, pos, Some, None, Ok, Err, Option, Result, sym, refl, ap, ◌∙◌, arith}
 use lib.Ieee.{Float, nan, binary32, add, mul}
-use Rattle.std.proofs.lemmas.List.{append_assoc, append-nil, drop_more, drop-set-lt, take_more_set, take_all, drop_all, at_drop_more, at_drop_all, length-set}
+use Rattle.std.proofs.lemmas.List.{append_assoc, append-nil, drop_more, drop-set-lt, take_more_set, take_all, drop_all, at_drop_more, at_drop_all}
 use Rattle.numeric.specs.Whole.{nearest_to}
 use Rattle.units.specs.Samples.{Table, sample_in}
 use Rattle.sampled.specs.declared.type0.Corner.{Corner}

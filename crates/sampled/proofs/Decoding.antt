@@ -1,5 +1,5 @@
 -- Laws of the decoded sums. Assumes nothing.
-use Rattle.std.proofs.Common.{◌≡◌, ℕ, zero, suc, ◌+◌, ◌*◌, ◌<◌, ◌≤◌, min, List, [], ◌∷◌, length, get_or, take, set, sym, refl, ap, ◌∙◌, arith}
+use Rattle.std.proofs.Common.{◌≡◌, ℕ, zero, suc, ◌+◌, ◌<◌, ◌≤◌, min, List, [], ◌∷◌, length, get_or, take, set, sym, refl, ap, ◌∙◌, arith}
 use lib.Ieee.{Float, nan}
 use Rattle.numeric.specs.Interval.{Interval, interpolate}
 use Rattle.numeric.specs.Lists.{pairs_of}

@@ -1,5 +1,5 @@
 -- Numbers laid into a longer list one by one, and the Encode pairs that Sizes give. Assumes nothing.
-use Rattle.std.proofs.Common.{◌≡◌, ℕ, ◌+◌, ◌-◌, ◌*◌, ◌<◌, ◌≤◌, ◌⊎◌, List, [], ◌∷◌, ◌++◌, map, length, get_or, take, drop, set, pos, sym, refl, ap, ◌∙◌, subst, arith}
+use Rattle.std.proofs.Common.{◌≡◌, ℕ, ◌+◌, ◌-◌, ◌*◌, ◌<◌, ◌≤◌, ◌⊎◌, List, [], ◌∷◌, ◌++◌, length, get_or, take, drop, set, pos, sym, ap, ◌∙◌, subst, arith}
 use lib.Ieee.{Float, nan}
 use Rattle.std.proofs.lemmas.List.{append_assoc, take-append-drop, set_at, drop_more, take_more, take_all, length-append, length-take-le, length-map, get_or-map}
 use Rattle.numeric.specs.Interval.{Interval}

@@ -1,8 +1,8 @@
 -- What the parts of an evaluation come to. Assumes nothing.
-use Rattle.std.proofs.Common.{◌≡◌, ℕ, zero, suc, ◌+◌, ◌-◌, ◌*◌, ◌<◌, ◌≤◌, Bool, true, false, cond, ◌&&◌, eqb, ltb, leb, List, [], ◌∷◌, ◌++◌, length, take, replicate, Ok, Err, Result, sym, refl, ap, ◌∙◌, subst, arith}
+use Rattle.std.proofs.Common.{◌≡◌, ℕ, ◌+◌, ◌-◌, ◌≤◌, true, false, ◌&&◌, eqb, ltb, leb, List, [], ◌∷◌, length, take, replicate, Ok, Err, Result, sym, refl, ap, ◌∙◌, arith}
 use lib.Ieee.{Float}
-use Rattle.std.proofs.lemmas.List.{length-take, length-replicate, take-append-le}
-use Rattle.std.proofs.lemmas.Bool.{and_from, and_parts, and_left, and_right, cond-true, cond-false, eqb-true, leb-true, ltb-true}
+use Rattle.std.proofs.lemmas.List.{length-take, length-replicate}
+use Rattle.std.proofs.lemmas.Bool.{and_parts, cond-true, cond-false, eqb-true, leb-true}
 use Rattle.fault.specs.Checks.{fault}
 use Rattle.fault.specs.declared.cause.Cause.TheVariants.{Size, NoSample}
 use Rattle.fault.specs.declared.cause.Fault.{Fault}
@@ -13,7 +13,6 @@ use Rattle.units.specs.Samples.{Table, width_in}
 use Rattle.function.specs.Answer.{Answer, reply_of}
 use Rattle.function.specs.Limits.{from_one_to, most_inputs, most_outputs}
 use Rattle.function.specs.Outputs.{over}
-use Rattle.function.specs.declared.counts.Counts.{Counts}
 use Rattle.function.proofs.Clamping.{over_clamped}
 use Rattle.sampled.specs.declared.type0.Corner.{Corner}
 use Rattle.sampled.specs.declared.type0.Type0.{Type0}

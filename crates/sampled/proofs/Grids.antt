@@ -1,9 +1,9 @@
 -- The Encode pairs that Sizes give. Assumes nothing.
-use Rattle.std.proofs.Common.{◌≡◌, ℕ, ◌+◌, ◌-◌, ◌<◌, ◌≤◌, Bool, true, false, ◌&&◌, List, [], ◌∷◌, map, length, get_or, pos, sym, refl, ap, ◌∙◌, arith}
+use Rattle.std.proofs.Common.{◌≡◌, ℕ, ◌+◌, ◌-◌, ◌<◌, ◌≤◌, Bool, true, false, ◌&&◌, List, length, get_or, pos, sym, refl, ap, ◌∙◌, arith}
 use lib.Ieee.{Float, nan, of_bits}
 use Rattle.std.specs.Float.{float_is_finite}
 use Rattle.std.proofs.lemmas.List.{get_or-map, length-map}
-use Rattle.numeric.specs.Interval.{Interval, both_finite}
+use Rattle.numeric.specs.Interval.{both_finite}
 use Rattle.numeric.specs.Lists.{every}
 use Rattle.numeric.specs.Whole.{nearest_to}
 use Rattle.numeric.proofs.Every.{Left, left_passed, left_failed, left_none}

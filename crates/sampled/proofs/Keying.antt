@@ -1,5 +1,5 @@
 -- Laws of pairs that lie in a list, and of the keys of inputs. Assumes nothing.
-use Rattle.std.proofs.Common.{◌≡◌, ℕ, zero, suc, ◌+◌, ◌*◌, ◌/◌, ◌<◌, ◌≤◌, min, List, [], ◌∷◌, length, get_or, take, set, sym, refl, ap, ◌∙◌, subst, add-one, arith}
+use Rattle.std.proofs.Common.{◌≡◌, ℕ, zero, suc, ◌+◌, ◌*◌, ◌/◌, ◌<◌, ◌≤◌, List, [], ◌∷◌, length, get_or, take, set, sym, refl, ap, ◌∙◌, add-one, arith}
 use lib.Ieee.{Float, nan}
 use Rattle.numeric.specs.Interval.{Interval, clamp, clamp_all}
 use Rattle.numeric.specs.Lists.{pairs_of}

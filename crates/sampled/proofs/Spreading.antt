@@ -1,11 +1,11 @@
 -- Laws of the corners around the keys. Assumes nothing.
-use Rattle.std.proofs.Common.{◌≡◌, ℕ, zero, suc, ◌+◌, ◌*◌, ◌^◌, ◌<◌, ◌≤◌, Bool, true, false, cond, ◌&&◌, leb, List, [], ◌∷◌, ◌++◌, length, get_or, take, drop, set, pos, sym, refl, ap, ◌∙◌, subst, add_assoc, suc-mul, pow-suc, add-one, arith}
+use Rattle.std.proofs.Common.{◌≡◌, ℕ, zero, suc, ◌+◌, ◌*◌, ◌^◌, ◌<◌, ◌≤◌, true, false, ◌&&◌, leb, List, [], ◌∷◌, ◌++◌, length, get_or, take, drop, set, pos, sym, refl, ap, ◌∙◌, subst, add_assoc, suc-mul, pow-suc, add-one, arith}
 use lib.Ieee.{Float, nan, binary32, sub, mul, eq}
 use lib.Ieee.Casts.{to_unsigned-lt}
 use Rattle.std.specs.List.{AllByRecursion as All}
 use Rattle.std.proofs.lemmas.Nat.{mul-le}
-use Rattle.std.proofs.ByRecursion.{All-append, All-get_or, All-weaker}
-use Rattle.std.proofs.lemmas.List.{append_assoc, append-nil, length-append, length-set, length-take-le, take_more, take_more_set, take_all, drop_all, drop_more, at_drop_more, at_drop_all}
+use Rattle.std.proofs.ByRecursion.{All-append, All-weaker}
+use Rattle.std.proofs.lemmas.List.{append_assoc, append-nil, length-append, length-set, length-take-le, take_more, take_more_set, take_all, drop_all, drop_more, at_drop_more}
 use Rattle.std.proofs.lemmas.Bool.{and_parts, cond-true, cond-false, cond_both}
 use Rattle.numeric.specs.Lists.{every}
 use Rattle.numeric.specs.Whole.{nearest_to}

@@ -1,5 +1,5 @@
 -- What is stored of a sampled function, read back; and how much it answers. Assumes nothing.
-use Rattle.std.proofs.Common.{◌≡◌, ℕ, zero, suc, ◌+◌, ◌*◌, ◌^◌, ◌<◌, ◌≤◌, Bool, true, false, cond, ◌&&◌, T, eqb, ltb, leb, List, [], ◌∷◌, ◌++◌, map, length, replicate, pos, Ok, Err, Result, sym, refl, ap, ◌∙◌, subst, mul_assoc, mul_comm, pow-suc, arith, le→leb}
+use Rattle.std.proofs.Common.{◌≡◌, ℕ, suc, ◌+◌, ◌*◌, ◌^◌, ◌≤◌, Bool, true, cond, ◌&&◌, eqb, leb, List, [], ◌∷◌, ◌++◌, length, replicate, pos, Ok, Err, Result, sym, refl, ap, ◌∙◌, subst, mul_assoc, pow-suc, arith, le→leb}
 use lib.Ieee.{Float, binary32, in_float}
 use lib.Ieee.Back.{unsigned_back}
 use Rattle.std.proofs.lemmas.Nat.{pow_pos, mul-le}
@@ -8,7 +8,7 @@ use Rattle.std.proofs.lemmas.Bool.{and_from, and_parts, eqb-true, eq-eqb, cond-t
 use Rattle.fault.specs.Checks.{passes, fault}
 use Rattle.fault.specs.declared.cause.Cause.TheVariants.{Size}
 use Rattle.fault.specs.declared.cause.Fault.{Fault}
-use Rattle.numeric.specs.Interval.{Interval, both_finite, rises, clamp_all}
+use Rattle.numeric.specs.Interval.{Interval, rises, clamp_all}
 use Rattle.numeric.specs.Lists.{every, flat, pairs_of}
 use Rattle.numeric.specs.Whole.{nearest_to, cut_unsigned}
 use Rattle.numeric.proofs.Flat.{pairs_flat, length_flat}

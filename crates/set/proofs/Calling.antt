@@ -1,5 +1,5 @@
 -- The checks of a call of a loaded function, and how many outputs it has. Assumes nothing.
-use Rattle.std.proofs.Common.{◌≡◌, ℕ, ◌-◌, ◌/◌, ◌<◌, ◌≤◌, min, Bool, true, false, cond, ◌&&◌, eqb, ltb, leb, List, [], ◌∷◌, ◌++◌, length, take, Some, None, Ok, Err, Option, sym, refl, ap, ◌∙◌, subst, arith}
+use Rattle.std.proofs.Common.{◌≡◌, ℕ, ◌-◌, ◌/◌, ◌<◌, ◌≤◌, true, false, ◌&&◌, eqb, ltb, leb, List, [], length, take, Some, None, Ok, Option, ap, ◌∙◌, arith}
 use lib.Ieee.{Float}
 use Rattle.std.proofs.lemmas.Bool.{cond-true, cond-false, and_parts, leb-true, ltb-true}
 use Rattle.fault.specs.Checks.{fault, first_fault, passes}
@@ -11,7 +11,7 @@ use Rattle.numeric.proofs.Ranges.{length_clamp_all}
 use Rattle.function.specs.Answer.{Meaning, first}
 use Rattle.function.specs.Evaluate.{compute, clamp_outputs, run}
 use Rattle.function.specs.Exponential.{counts_fit, factor, mixed}
-use Rattle.function.specs.Function.{Function, Body, exponential}
+use Rattle.function.specs.Function.{Body, exponential}
 use Rattle.function.specs.Limits.{from_one_to, most_outputs, full_list}
 use Rattle.function.specs.declared.record.Record.{Record}
 use Rattle.function.proofs.Mixing.{mixed_length}

@@ -1,9 +1,8 @@
 -- A set after a loading. Assumes nothing.
-use Rattle.std.proofs.Common.{◌≡◌, ℕ, ◌+◌, ◌-◌, ◌<◌, ◌≤◌, Bool, true, ◌&&◌, leb, List, [], ◌∷◌, ◌++◌, length, take, set, Some, None, Ok, Err, Option, Result, sym, refl, ap, ◌∙◌, subst, arith}
-use lib.Ieee.{Float}
+use Rattle.std.proofs.Common.{◌≡◌, ℕ, ◌+◌, ◌-◌, ◌<◌, ◌≤◌, true, ◌&&◌, leb, List, [], ◌∷◌, ◌++◌, length, take, set, None, Ok, Err, Option, Result, sym, refl, ap, ◌∙◌, subst, arith}
 use Rattle.std.proofs.lemmas.List.{length-set}
 use Rattle.std.proofs.lemmas.Bool.{and_parts, leb-true}
-use Rattle.fault.specs.Checks.{Check, first_fault, passes}
+use Rattle.fault.specs.Checks.{first_fault, passes}
 use Rattle.fault.specs.declared.cause.Fault.{Fault}
 use Rattle.fault.proofs.Passing.{none_passes, passes_front, passes_back}
 use Rattle.numeric.specs.Lists.{every, laid}
@@ -11,10 +10,10 @@ use Rattle.function.specs.Function.{Function}
 use Rattle.function.specs.Numbers.{judged, numbers_of}
 use Rattle.function.specs.declared.record.Record.{Record}
 use Rattle.function.proofs.Judging.{judged_ok, judged_err}
-use Rattle.set.specs.Model.{Entries, Model, entries}
+use Rattle.set.specs.Model.{entries}
 use Rattle.set.specs.Lent.{lengths}
 use Rattle.set.specs.State.{model_of, Stored}
-use Rattle.set.specs.Steps.{Done, admitted, function_checks, has_room, left, load_by, load_checks, load_step, loaded, needs}
+use Rattle.set.specs.Steps.{admitted, function_checks, has_room, left, load_by, load_checks, load_step, needs}
 use Rattle.set.specs.View.{functions_in, placed, record_of}
 use Rattle.set.specs.declared.memory.Memory.{Memory}
 use Rattle.set.specs.declared.set.Set.{Set}

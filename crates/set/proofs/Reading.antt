@@ -1,18 +1,17 @@
 -- What a set's invariant says of a loaded function. Assumes nothing.
-use Rattle.std.proofs.Common.{◌≡◌, ℕ, zero, suc, ◌+◌, ◌-◌, ◌/◌, ◌<◌, ◌≤◌, Bool, true, ◌&&◌, ltb, leb, List, [], ◌∷◌, ◌++◌, length, get_or, take, drop, sym, refl, ap, ◌∙◌, subst, append_assoc, append-nil, arith}
+use Rattle.std.proofs.Common.{◌≡◌, ℕ, zero, suc, ◌-◌, ◌/◌, ◌<◌, ◌≤◌, true, ◌&&◌, ltb, leb, List, [], ◌∷◌, ◌++◌, length, get_or, take, sym, refl, ap, ◌∙◌, subst, append_assoc, append-nil, arith}
 use lib.Ieee.{Float, nan}
 use Rattle.std.proofs.lemmas.List.{length-map, length-take-le, get_or-map, get_or-take}
 use Rattle.std.proofs.lemmas.Bool.{and_parts, and_from, leb-true, ltb-true}
 use Rattle.fault.specs.Checks.{passes}
-use Rattle.numeric.specs.Lists.{every, pairs_of}
+use Rattle.numeric.specs.Lists.{pairs_of}
 use Rattle.numeric.proofs.Every.{every_at}
 use Rattle.function.specs.Function.{Function, exponential}
-use Rattle.function.specs.declared.record.Kind.{Kind}
 use Rattle.function.specs.declared.record.Kind.TheVariants.{Exponential}
 use Rattle.function.specs.declared.record.Record.{Record}
 use Rattle.set.specs.State.{model_of}
 use Rattle.set.specs.Steps.{at, nothing, admitted, function_checks}
-use Rattle.set.specs.View.{between, body_at, function_at, functions_in, placed, kind_placed}
+use Rattle.set.specs.View.{between, body_at, function_at, placed, kind_placed}
 use Rattle.set.specs.declared.set.Set.{Set}
 use Rattle.set.proofs.Between.{between_length, between_take, pairs_half}
 

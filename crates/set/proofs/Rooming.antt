@@ -1,7 +1,7 @@
 -- The check for free entries behind the checks of a function. Assumes nothing.
-use Rattle.std.proofs.Common.{◌≡◌, ℕ, Bool, true, false, cond, List, [], ◌∷◌, ◌++◌, length, Some, None, Ok, Err, Option, Result, sym, refl, ap, ◌∙◌}
+use Rattle.std.proofs.Common.{◌≡◌, ℕ, true, false, cond, List, length, Some, None, Ok, Err, Option, Result, sym, ap, ◌∙◌}
 use Rattle.std.proofs.lemmas.Bool.{cond-true, cond-false}
-use Rattle.fault.specs.Checks.{Check, check, fault, first_fault}
+use Rattle.fault.specs.Checks.{Check, fault, first_fault}
 use Rattle.fault.specs.declared.cause.Cause.TheVariants.{Room}
 use Rattle.fault.specs.declared.cause.Fault.{Fault}
 use Rattle.function.specs.Function.{Function}

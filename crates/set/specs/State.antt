@@ -1,12 +1,12 @@
 -- The model of a set, and what a loading leaves in the lent lists. Assumes nothing.
-use Rattle.std.specs.Prelude.{◌≡◌, ℕ, ◌<◌, List, length, take, set, Some, None, Ok, Err, Result, slice_index_or, slice_set}
+use Rattle.std.specs.Prelude.{◌≡◌, ℕ, ◌<◌, take, Some, None, Ok, Err, Result, slice_index_or, slice_set}
 use Rattle.fault.specs.Checks.{first_fault}
 use Rattle.fault.specs.declared.cause.Fault.{Fault}
 use Rattle.numeric.specs.Lists.{written}
 use Rattle.function.specs.Function.{Function}
 use Rattle.function.specs.Numbers.{numbers_of}
 use Rattle.function.specs.declared.record.Record.{Record}
-use Rattle.set.specs.Model.{Entries, entries, Model}
+use Rattle.set.specs.Model.{entries, Model}
 use Rattle.set.specs.Lent.{lengths}
 use Rattle.set.specs.Steps.{left, call_checks}
 use Rattle.set.specs.View.{functions_in, record_of}

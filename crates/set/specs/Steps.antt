@@ -2,7 +2,7 @@
 use Rattle.std.specs.Prelude.{ℕ, ◌-◌, Bool, true, ◌&&◌, List, [], ◌∷◌, ◌++◌, length, drop, Some, None, Ok, Err, Option, Result, ◌==◌, nat_le, nat_lt, slice_index_or, Float}
 use Rattle.std.specs.Float.{nan}
 use Rattle.fault.specs.Checks.{Check, check, fault, first_fault, passes}
-use Rattle.fault.specs.declared.cause.Cause.TheVariants.{SetList, Room, NoFunction, InputCount, OutputList}
+use Rattle.fault.specs.declared.cause.Cause.TheVariants.{Room, NoFunction, InputCount, OutputList}
 use Rattle.fault.specs.declared.cause.Fault.{Fault}
 use Rattle.numeric.specs.Interval.{Interval}
 use Rattle.function.specs.Answer.{Answer, Meaning, counts_of}

@@ -1,5 +1,5 @@
 -- What the lent lists of a set stand for. Assumes nothing.
-use Rattle.std.specs.Prelude.{ℕ, ◌+◌, ◌-◌, Bool, ◌&&◌, List, [], ◌∷◌, ◌++◌, map, length, nat_le, nat_lt, slice_index_or, slice_range, Float}
+use Rattle.std.specs.Prelude.{ℕ, ◌+◌, Bool, ◌&&◌, List, map, length, nat_le, nat_lt, slice_index_or, slice_range, Float}
 use Rattle.std.specs.Float.{nan}
 use Rattle.numeric.specs.Lists.{flat, pairs_of}
 use Rattle.function.specs.Function.{Function, Body, exponential}

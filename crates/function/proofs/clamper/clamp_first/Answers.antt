@@ -1,4 +1,4 @@
-use Rattle.std.proofs.Common.{◌≡◌, ◌∙◌, arith}
+use Rattle.std.proofs.Common.{◌∙◌, arith}
 use Rattle.units.proofs.Nans.{nan_is}
 use Rattle.numeric.specs.Lists.{pairs_of}
 use Rattle.function.proofs.Clamping.{first_none, first_clamped}

@@ -1,4 +1,4 @@
-use Rattle.std.proofs.Common.{◌≡◌, ℕ, ◌-◌, List, ◌++◌, take, drop, sym, ap, ◌∙◌, arith}
+use Rattle.std.proofs.Common.{◌≡◌, ℕ, ◌-◌, List, ◌++◌, take, ap, ◌∙◌, arith}
 use lib.Ieee.{Float}
 use borrow.Rule.Slice.PartMut.{post_of, Post-is}
 use Rattle.numeric.specs.Interval.{clamp_all}

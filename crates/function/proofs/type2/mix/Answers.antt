@@ -1,4 +1,4 @@
-use Rattle.std.proofs.Common.{◌≡◌, ℕ, ◌<◌, ◌≤◌, min, length, get_or, set, refl, ap, ◌∙◌, arith}
+use Rattle.std.proofs.Common.{◌<◌, ◌≤◌, min, length, get_or, set, ap, ◌∙◌, arith}
 use lib.Ieee.{Float, nan}
 use Rattle.function.specs.Exponential.{mixed}
 use Rattle.function.proofs.Mixing.{mixed_length, mixed_at}

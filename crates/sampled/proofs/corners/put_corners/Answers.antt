@@ -1,4 +1,4 @@
-use Rattle.std.proofs.Common.{◌≡◌, ◌≤◌, arith}
+use Rattle.std.proofs.Common.{arith}
 use Rattle.sampled.proofs.Spreading.{spreading_none, spreading_room, spreading_stride, spreading_below, spreading_product, spreading_more, spreading_all}
 use Rattle.sampled.proofs.corners.put_corners.Goals as goal
 

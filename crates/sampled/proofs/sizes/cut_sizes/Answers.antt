@@ -1,4 +1,4 @@
-use Rattle.std.proofs.Common.{◌≡◌, ℕ, ◌<◌, ◌≤◌, min, List, length, get_or, set, sym, ap, ◌∙◌, arith}
+use Rattle.std.proofs.Common.{◌≡◌, ℕ, ◌<◌, List, length, get_or, set, sym, ap, ◌∙◌, arith}
 use lib.Ieee.{nan}
 use Rattle.std.proofs.lemmas.List.{length-map, get_or-map}
 use Rattle.numeric.specs.Whole.{cut_unsigned}

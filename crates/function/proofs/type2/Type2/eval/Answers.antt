@@ -1,11 +1,10 @@
-use Rattle.std.proofs.Common.{◌≡◌, ℕ, List, length, take, sym, ap, ◌∙◌, arith}
+use Rattle.std.proofs.Common.{◌≡◌, ℕ, List, length, take, sym, ap, ◌∙◌}
 use lib.Ieee.{Float}
 use Rattle.numeric.specs.Interval.{clamp_all}
 use Rattle.numeric.specs.Lists.{pairs_of}
 use Rattle.numeric.proofs.Ranges.{length_clamp_all}
 use Rattle.function.specs.Exponential.{factor, mixed}
 use Rattle.function.specs.Outputs.{over}
-use Rattle.function.specs.declared.counts.Counts.{Counts}
 use Rattle.function.proofs.Clamping.{over_clamped}
 use Rattle.function.proofs.Mixing.{mixed_length}
 use Rattle.function.proofs.type2.Type2.eval.Goals as goal

@@ -1,4 +1,4 @@
-use Rattle.std.proofs.Common.{◌≡◌, length, sym, ap, ◌∙◌}
+use Rattle.std.proofs.Common.{length, sym, ap, ◌∙◌}
 use Rattle.sampled.specs.Sampled.{pairs_or, whole_grid}
 use Rattle.sampled.proofs.Grids.{grid_length}
 use Rattle.sampled.proofs.type0.Sampled.encode_count.Goals as goal

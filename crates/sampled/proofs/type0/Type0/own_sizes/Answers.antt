@@ -1,7 +1,7 @@
-use Rattle.std.proofs.Common.{◌≡◌, ℕ, ◌≤◌, Bool, List, [], ◌∷◌, length, take, sym, ap, ◌∙◌, arith}
+use Rattle.std.proofs.Common.{ℕ, List, sym, ap, ◌∙◌}
 use Rattle.std.proofs.lemmas.Bool.{and_from, and_left, and_right}
 use Rattle.sampled.specs.Sampled.{sizes_fit, sizes_in}
-use Rattle.sampled.proofs.Evaluating.{Shape, shape_is, front_is, front_part}
+use Rattle.sampled.proofs.Evaluating.{shape_is, front_is, front_part}
 use Rattle.sampled.proofs.type0.Type0.own_sizes.Goals as goal
 
 pub returns-then-not-shape_fits : goal.returns-then-not-shape_fits

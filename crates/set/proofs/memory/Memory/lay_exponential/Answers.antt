@@ -1,12 +1,11 @@
-use Rattle.std.proofs.Common.{◌≡◌, ℕ, ◌+◌, ◌≤◌, List, [], ◌∷◌, ◌++◌, length, sym, refl, ap, ◌∙◌, subst, append_assoc, arith}
+use Rattle.std.proofs.Common.{◌≡◌, ◌+◌, ◌≤◌, List, [], ◌∷◌, ◌++◌, length, refl, ap, ◌∙◌, subst, append_assoc, arith}
 use lib.Ieee.{Float}
 use Rattle.std.proofs.lemmas.List.{length-append}
 use Rattle.numeric.specs.Lists.{flat, laid, Lays}
 use Rattle.function.specs.Exponential.{c0_of, c1_of, exponential_of}
 use Rattle.function.specs.Numbers.{numbers_of}
 use Rattle.function.specs.declared.record.Kind.TheVariants.{Exponential}
-use Rattle.set.specs.View.{record_of}
-use Rattle.numeric.proofs.Appending.{LaidUp, laid_first, laid_next}
+use Rattle.numeric.proofs.Appending.{laid_first, laid_next}
 use Rattle.set.proofs.memory.Memory.lay_exponential.Goals as goal
 
 pub returns : goal.returns

@@ -1,6 +1,5 @@
-use Rattle.std.proofs.Common.{◌≡◌, ℕ, ◌<◌, ◌≤◌, true, List, length, Ok, Err, Result, sym, refl, ap, ◌∙◌, subst, arith}
+use Rattle.std.proofs.Common.{◌≡◌, ℕ, ◌<◌, ◌≤◌, true, Ok, Result, sym, refl, ap, ◌∙◌, subst, arith}
 use borrow.Enum.Total.{values_d}
-use lib.Ieee.{Float}
 use Rattle.fault.specs.declared.cause.Fault.{Fault}
 use Rattle.function.specs.contracts.record.Kind.{enum}
 use Rattle.function.specs.Answer.{Answer, counts_of}
