@@ -1,13 +1,13 @@
 -- What trimming blanks and looking for a word's end come to, by bytes. Assumes nothing.
-use Rattle.std.proofs.Common.{◌≡◌, ℕ, zero, suc, ◌+◌, ◌<◌, ◌≤◌, Bool, true, false, cond, ◌||◌, eqb, ◌⊎◌, List, [], ◌∷◌, ◌++◌, length, get_or, take, drop, IfSome, Some, None, Option, sym, refl, ap, ◌∙◌, subst, inl, inr, ⊎_elim, arith, length-take-le, get_or-take, true-eqb}
+use Rattle.std.proofs.Common.{◌≡◌, ℕ, zero, suc, ◌<◌, ◌≤◌, Bool, true, false, eqb, ◌⊎◌, List, [], ◌∷◌, ◌++◌, length, get_or, take, drop, IfSome, Some, None, Option, sym, refl, ap, ◌∙◌, inl, inr, ⊎_elim, arith, length-take-le, get_or-take, true-eqb}
 use borrow.Author.Tests.{clash}
 use lib.Utf8.{low_scalar}
 use Rattle.std.specs.Char.{char_set_contains, len_utf8}
-use Rattle.std.specs.Str.Pattern.{HasCharAt, HasPassingCharAt, FindsPrefixBy, FindsCharPrefix, CutsPrefixes, IsTrimStartMatches}
+use Rattle.std.specs.Str.Pattern.{HasPassingCharAt, FindsPrefixBy, FindsCharPrefix, CutsPrefixes, IsTrimStartMatches}
 use Rattle.std.specs.Str.{NoCharPasses, NonePass}
 use Rattle.std.proofs.lemmas.Str.Ascii.{encode_ascii}
 use Rattle.std.proofs.lemmas.Str.Pattern.{NoCharPasses-char, drop_at_char}
-use Rattle.std.proofs.lemmas.Bool.{eqb-true, eq-eqb, ne_eqb, or_cases, or_parts, or_from, both_ways, cases_Bool}
+use Rattle.std.proofs.lemmas.Bool.{eqb-true, ne_eqb, or_cases, or_parts, or_from, both_ways, cases_Bool}
 use Rattle.std.proofs.lemmas.Bool.Decides.{nat_tests}
 use Rattle.command.specs.Cutting.{blank, ends, after_blanks, up_to, word_length, front, first_word, after_word}
 

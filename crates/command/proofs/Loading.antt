@@ -1,5 +1,5 @@
 -- The fields of a load line, read one by one. Assumes nothing.
-use Rattle.std.proofs.Common.{◌≡◌, ℕ, List, IfOk, Some, None, Ok, Err, Result, sym, subst}
+use Rattle.std.proofs.Common.{ℕ, List, IfOk, Some, None, Ok, Err, Result}
 use Rattle.command.specs.declared.exponential.Draft.{Draft}
 use Rattle.command.specs.declared.exponential.ExponentialLine.{ExponentialLine}
 use Rattle.command.specs.Cutting.{AtField}

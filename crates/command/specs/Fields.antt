@@ -1,5 +1,5 @@
 -- What the numbers and the fields of a line come to. In each, s is the text before and t what is left of it. Assumes nothing.
-use Rattle.std.specs.Prelude.{◌≡◌, ℕ, ◌%◌, List, [], ◌∷◌, length, Some, None, Option, Float}
+use Rattle.std.specs.Prelude.{◌≡◌, ℕ, ◌%◌, List, [], ◌∷◌, length, Some, None, Float}
 use Rattle.command.specs.Cutting.{after_word, field_word}
 use Rattle.numerals.specs.Numbers.{ReadsNumber, Whole}
 

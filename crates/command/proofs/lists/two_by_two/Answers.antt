@@ -1,4 +1,4 @@
-use Rattle.std.proofs.Common.{◌≡◌, ◌+◌, ◌*◌, [], ◌∷◌, ◌++◌, get_or, sym, ap, ◌∙◌, arith}
+use Rattle.std.proofs.Common.{◌+◌, ◌*◌, [], ◌∷◌, ◌++◌, get_or, sym, ap, ◌∙◌, arith}
 use lib.Ieee.{nan}
 use Rattle.command.proofs.Pairing.{paired_more, paired_all}
 use Rattle.command.proofs.lists.two_by_two.Goals as goal

@@ -4,12 +4,12 @@ use Rattle.command.proofs.words.Words.next_word.Goals as goal
 
 pub returns-then-is_empty : goal.returns-then-is_empty
 returns-then-is_empty c =
-    let told = no_word c.args.self.now.rest.now c.trim_start_matches-rest.result.now c.trim_start_matches-rest.ensures.matches c.if-is-empty.ensures in
+    let told = no_word c.args.self.now.rest.now c.trim_start_matches-rest.result.now c.trim_start_matches-rest.ensures.matches c.if-is_empty.ensures in
     record { word = told.0; rest = told.1; reads = c.trim_start_matches-rest.ensures.bound }
 
 pub split_word-requires : goal.split_word-requires
 split_word-requires c =
-    bare_word c.args.self.now.rest.now c.trim_start_matches-rest.result.now c.trim_start_matches-rest.ensures.matches c.if-is-empty.ensures
+    bare_word c.args.self.now.rest.now c.trim_start_matches-rest.result.now c.trim_start_matches-rest.ensures.matches c.if-is_empty.ensures
 
 pub returns : goal.returns
 returns c =
