@@ -7,7 +7,7 @@ use Rattle.std.proofs.ByRecursion.{All-append, All-take, All-drop, All-map}
 use Rattle.std.proofs.lemmas.List.{length-append, length-take, drop-drop, drop_more, drop-append-le, take-append-le}
 use Rattle.std.proofs.lemmas.List.FromFn.{length-map-range_with_len, get_or-map-range_with_len}
 use Rattle.std.proofs.lemmas.Option.{slice_get-get_or, slice_get_past}
-use Rattle.std.specs.List.{slice_get, range_with_len, AllByRecursion as All}
+use Rattle.std.specs.List.{slice_get, range_with_len, AllByRecursion}
 use Rattle.fault.specs.Checks.{passes}
 use Rattle.units.proofs.Checking.{own_pass}
 use Rattle.units.proofs.Reading.{is_inside, well_formed}
@@ -97,7 +97,7 @@ number_more bs b h =
     let own : b % 256 ≡ b = omega arith in
     ap number_of (bits_append bs (b ∷ [])) ∙ number_append (bits_in bs) (low_bits 8 b) ∙ ap (λ (k : ℕ). number_of (bits_in bs) * 256 + k) (low ∙ own)
 
-number_lt : (xs : List ℕ) → All (λ b. b < 2) xs → number_of xs < 2 ^ length xs
+number_lt : (xs : List ℕ) → AllByRecursion (λ b. b < 2) xs → number_of xs < 2 ^ length xs
 number_lt [] h = omega arith
 number_lt (x ∷ xs) h =
     let rest = number_lt xs h.1 in
@@ -106,11 +106,11 @@ number_lt (x ∷ xs) h =
     let twice : 2 * 2 ^ length xs ≡ 2 ^ suc (length xs) = sym (pow-add 2 1 (length xs)) ∙ ap (λ (k : ℕ). 2 ^ k) next in
     omega arith
 
-low_below : (n x : ℕ) → All (λ b. b < 2) (low_bits n x)
+low_below : (n x : ℕ) → AllByRecursion (λ b. b < 2) (low_bits n x)
 low_below zero x = tt
 low_below (suc n) x = (mod_below (x / 2 ^ n) 2 (omega arith), low_below n x)
 
-bits_below : (bs : List ℕ) → All (λ b. b < 2) (bits_in bs)
+bits_below : (bs : List ℕ) → AllByRecursion (λ b. b < 2) (bits_in bs)
 bits_below [] = tt
 bits_below (b ∷ bs) = All-append (λ k. k < 2) (low_bits 8 b) (bits_in bs) (low_below 8 b) (bits_below bs)
 
@@ -181,10 +181,10 @@ nth_sample w bs i v h e =
 pub no_sample : (w : ℕ) (bs : List ℕ) (i : ℕ) → 8 * length bs / w ≤ i → None ≡ slice_get (packed_samples w bs) i
 no_sample w bs i h = sym (slice_get_past (packed_samples w bs) i (omega (arith, length_samples w bs)))
 
-pub samples_below : (w : ℕ) (bs : List ℕ) → All (λ n. n < 2 ^ w) (packed_samples w bs)
+pub samples_below : (w : ℕ) (bs : List ℕ) → AllByRecursion (λ n. n < 2 ^ w) (packed_samples w bs)
 samples_below w bs = All-map (λ n. n < 2 ^ w) (sample_from w (bits_in bs)) (range_with_len 0 (8 * length bs / w)) (every (range_with_len 0 (8 * length bs / w)))
   where
-    every : (is : List ℕ) → All (λ i. sample_from w (bits_in bs) i < 2 ^ w) is
+    every : (is : List ℕ) → AllByRecursion (λ i. sample_from w (bits_in bs) i < 2 ^ w) is
     every [] = tt
     every (i ∷ is) = (sample_lt w i bs, every is)
 

@@ -4,7 +4,7 @@ use Rattle.std.proofs.ByRecursion.{All-map}
 use Rattle.std.proofs.lemmas.List.{length-take, length-drop, length-map, get_or-take, get_or-drop}
 use Rattle.std.proofs.lemmas.Option.{slice_get-get_or, slice_get_past}
 use Rattle.std.proofs.lemmas.Bool.{eqb-true, leb-true, and_parts, cond-true, cond-false}
-use Rattle.std.specs.List.{slice_get, AllByRecursion as All}
+use Rattle.std.specs.List.{slice_get, AllByRecursion}
 use Rattle.fault.specs.Checks.{Check, passes}
 use Rattle.units.proofs.Checking.{few_tables, own_pass, own_width}
 use Rattle.units.specs.Directory.{covered, given_width, is_width, width_of, width_or, inside_check, directory_checks}
@@ -68,20 +68,20 @@ width_read checks samples ss i p = go (slice_get ss i) refl
     go (Some s) e =
         ap given_width e ∙ from_width s.width (own_width checks ss i s p e) ∙ the_table (table_from samples) (λ t. Some t.width) ss i s (sym e)
 
-all_nth : {A : Type 0} (P : A → Type 0) (xs : List A) → ((i : ℕ) (x : A) → slice_get xs i ≡ Some x → P x) → All P xs
+all_nth : {A : Type 0} (P : A → Type 0) (xs : List A) → ((i : ℕ) (x : A) → slice_get xs i ≡ Some x → P x) → AllByRecursion P xs
 all_nth P [] h = tt
 all_nth P (x ∷ xs) h = (h 0 x refl, all_nth P xs (λ i y e. h (suc i) y e))
 
 -- the tables are well formed where the samples of each stretch that passes have no more bits than its width
 pub well_formed : (checks : ℕ → Stretch → List Check) (samples : Stretch → List ℕ) (ss : List Stretch)
-    → ((i : ℕ) (s : Stretch) → passes (checks i s) ≡ true → All (λ n. n < 2 ^ s.width) (samples s))
+    → ((i : ℕ) (s : Stretch) → passes (checks i s) ≡ true → AllByRecursion (λ n. n < 2 ^ s.width) (samples s))
     → passes (directory_checks checks ss) ≡ true → WellFormed (map (table_from samples) ss)
 well_formed checks samples ss h p =
     let few = few_tables checks ss p in (
       simp length-map few,
-      All-map (λ t. All (λ n. n < 2 ^ bits_of t.width) t.samples) (table_from samples) ss (
-          all_nth (λ s. All (λ n. n < 2 ^ bits_of (width_of s.width)) (samples s)) ss λ i s e.
-          subst (λ (b : ℕ). All (λ n. n < 2 ^ b) (samples s)) (sym (width_bits s.width (own_width checks ss i s p e))) (h i s (own_pass checks ss i s p e))),
+      All-map (λ t. AllByRecursion (λ n. n < 2 ^ bits_of t.width) t.samples) (table_from samples) ss (
+          all_nth (λ s. AllByRecursion (λ n. n < 2 ^ bits_of (width_of s.width)) (samples s)) ss λ i s e.
+          subst (λ (b : ℕ). AllByRecursion (λ n. n < 2 ^ b) (samples s)) (sym (width_bits s.width (own_width checks ss i s p e))) (h i s (own_pass checks ss i s p e))),
     )
 
 -- ---- a stretch of a list

@@ -3,7 +3,7 @@ use Rattle.std.proofs.Common.{◌≡◌, ℕ, suc, ◌+◌, ◌/◌, ◌^◌, �
 use Rattle.std.proofs.lemmas.Nat.{pow_pos, div_below, le-div}
 use Rattle.std.proofs.lemmas.List.{at_drop_more, at_drop_all}
 use Rattle.std.proofs.lemmas.Bool.{cases_lt, lt-ltb, le-ltb, ltb-true, eq-eqb, ne_eqb, and_parts}
-use Rattle.std.specs.List.{slice_get, AllByRecursion as All}
+use Rattle.std.specs.List.{slice_get, AllByRecursion}
 use Rattle.fault.specs.Checks.{first_fault, passes}
 use Rattle.fault.specs.declared.cause.Cause.TheVariants.{UnitStretch}
 use Rattle.fault.specs.declared.cause.Fault.{Fault}
@@ -23,7 +23,7 @@ none_above w bits = go (cases_lt w (2 ^ bits))
     go (inr h) = let q = le-div 1 w (2 ^ bits) (pow_pos bits) (omega arith) in ne_eqb (w / 2 ^ bits) 0 (λ z. omega arith) ∙ sym (le-ltb w (2 ^ bits) h)
 
 -- words that pass have no more bits
-pub words_below : (bits table place : ℕ) (ws : List ℕ) → passes (word_checks bits table place ws) ≡ true → All (λ w. w < 2 ^ bits) ws
+pub words_below : (bits table place : ℕ) (ws : List ℕ) → passes (word_checks bits table place ws) ≡ true → AllByRecursion (λ w. w < 2 ^ bits) ws
 words_below bits table place [] p = tt
 words_below bits table place (w ∷ ws) p =
     let t = and_parts (ltb w (2 ^ bits)) (passes (word_checks bits table (suc place) ws)) p in

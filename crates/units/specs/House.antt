@@ -1,5 +1,5 @@
 -- What the house unit answers. Assumes nothing.
-use Rattle.std.specs.Prelude.{ℕ, zero, suc, ◌+◌, ◌*◌, ◌/◌, ◌^◌, ◌<◌, ◌≤◌, Bool, cond, ◌&&◌, T, pos, from_bits, nat_le, Float}
+use Rattle.std.specs.Prelude.{ℕ, zero, suc, ◌+◌, ◌*◌, ◌/◌, ◌^◌, ◌<◌, ◌≤◌, cond, ◌&&◌, T, pos, from_bits, nat_le, Float}
 use Rattle.std.specs.Float.Ieee.{up, down, low, fits, mul, le, eq, of_int, to_unsigned}
 use Rattle.std.specs.Float.{sqrt, float_is_finite, nan, inf, fin, binary32}
 use Rattle.units.specs.declared.question.Question.{Question}

@@ -1,6 +1,6 @@
 -- Sample tables: their widths, and what a sample unit answers of them. Assumes nothing.
 use Rattle.std.specs.Prelude.{ℕ, ◌-◌, ◌^◌, ◌<◌, ◌≤◌, min, Bool, cond, List, [], ◌∷◌, length, Some, None, Option, nat_eq}
-use Rattle.std.specs.List.{slice_get, AllByRecursion as All}
+use Rattle.std.specs.List.{slice_get, AllByRecursion}
 use Rattle.units.specs.declared.samples.Width.{Width}
 use Rattle.units.specs.declared.samples.Width.TheVariants as variant
 
@@ -38,7 +38,7 @@ most_tables = 64
 
 -- at most 64 tables, and no sample has more bits than its table's width
 abbrev pub WellFormed : List Table → Type 0
-WellFormed ts = (length ts ≤ most_tables) × All (λ t. All (λ sample. sample < 2 ^ bits_of t.width) t.samples) ts
+WellFormed ts = (length ts ≤ most_tables) × AllByRecursion (λ t. AllByRecursion (λ sample. sample < 2 ^ bits_of t.width) t.samples) ts
 
 -- ---- answers: none exactly where the table or the index is outside
 
