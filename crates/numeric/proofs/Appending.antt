@@ -1,5 +1,5 @@
 -- One stretch of numbers laid behind another. Assumes nothing.
-use Rattle.std.proofs.Common.{◌≡◌, ℕ, ◌+◌, ◌-◌, ◌≤◌, true, List, ◌++◌, length, take, drop, sym, ap, ◌∙◌, arith}
+use Rattle.std.proofs.Common.{◌≡◌, ℕ, ◌+◌, ◌≤◌, true, List, ◌++◌, length, take, drop, sym, ap, ◌∙◌, arith}
 use Rattle.std.proofs.lemmas.List.{append_assoc, length-append, length-take-le, length-drop, drop-drop, take_at, drop_at}
 use Rattle.std.proofs.lemmas.Bool.{cond-true}
 use Rattle.numeric.specs.Lists.{fits, written, laid, behind, Lays}

@@ -5,7 +5,7 @@ use borrow.Rule.Slice.PartMut.{put_mid}
 use Rattle.std.proofs.lemmas.List.{append_assoc, take-append-drop, drop-drop, set_at, drop_more, take_more, take_all, length_push, length-append, length-take-le, take_at, drop_at, take-append-le, take-take}
 use Rattle.std.proofs.lemmas.Bool.{both_ways, le-leb, lt-leb, and_from, and_left, and_right, cond-true, cond-false}
 use Rattle.numeric.specs.Interval.{Interval}
-use Rattle.numeric.specs.Lists.{flat, fits, written, laid, behind, Lays}
+use Rattle.numeric.specs.Lists.{flat, fits, written, Lays}
 use Rattle.numeric.proofs.Flat.{length_flat, flat_append}
 
 module _ {A : Type 0} (list : List A) (at : ℕ) (xs : List A) where

@@ -1,5 +1,5 @@
 -- Cutting a float to an integer, and the float nearest to an integer. Assumes nothing.
-use Rattle.std.specs.Prelude.{ℕ, ℤ, pos, Float}
+use Rattle.std.specs.Prelude.{ℕ, ℤ, Float}
 use Rattle.std.specs.Float.{binary32}
 use Rattle.std.specs.Float.Ieee.{to_unsigned, to_signed, of_int}
 
