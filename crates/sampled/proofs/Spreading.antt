@@ -2,7 +2,7 @@
 use Rattle.std.proofs.Common.{◌≡◌, ℕ, zero, suc, ◌+◌, ◌*◌, ◌^◌, ◌<◌, ◌≤◌, true, false, ◌&&◌, leb, List, [], ◌∷◌, ◌++◌, length, get_or, take, drop, set, pos, sym, refl, ap, ◌∙◌, subst, add_assoc, suc-mul, pow-suc, add-one, arith}
 use lib.Ieee.{Float, nan, binary32, sub, mul, eq}
 use lib.Ieee.Casts.{to_unsigned-lt}
-use Rattle.std.specs.List.{AllByRecursion as All}
+use Rattle.std.specs.List.{AllByRecursion}
 use Rattle.std.proofs.lemmas.Nat.{mul-le}
 use Rattle.std.proofs.ByRecursion.{All-append, All-weaker}
 use Rattle.std.proofs.lemmas.List.{append_assoc, append-nil, length-append, length-set, length-take-le, take_more, take_more_set, take_all, drop_all, drop_more, at_drop_more}
@@ -78,7 +78,7 @@ spread_few k stride (c ∷ cs) =
     (omega arith, omega arith)
 
 abbrev up_to : ℕ → List Corner → Type 0
-up_to n cs = All (λ c. c.offset ≤ n) cs
+up_to n cs = AllByRecursion (λ c. c.offset ≤ n) cs
 
 -- a lower neighbour is below 2 ^ 32, a stride at most 2 ^ 20
 pub step_bound : (low stride : ℕ) → low < 2 ^ 32 → stride ≤ 1048576 → low * stride + stride ≤ 2 ^ 53
@@ -94,7 +94,7 @@ spread_far : (k : Float) (stride n : ℕ) (cs : List Corner) → stride ≤ 1048
 spread_far k stride n [] h l = tt
 spread_far k stride n (c ∷ cs) h l = All-append (λ c. c.offset ≤ n + 2 ^ 53) (split k stride c) (spread k stride cs) (split_far k stride n c h l.0) (spread_far k stride n cs h l.1)
 
-pub far_below : (n : ℕ) (cs : List Corner) → n < 2 ^ 63 → All (λ c. c.offset ≤ n) cs → OffsetsBelow (2 ^ 63) cs
+pub far_below : (n : ℕ) (cs : List Corner) → n < 2 ^ 63 → AllByRecursion (λ c. c.offset ≤ n) cs → OffsetsBelow (2 ^ 63) cs
 far_below n cs h l = All-weaker (λ c. c.offset ≤ n) (λ c. c.offset < 2 ^ 63) (λ c k. omega arith) cs l
 
 -- ---- a loop over corners that has come to i, and to the place `end`
@@ -139,7 +139,7 @@ pub record Spreading (ks : List Float) (sizes : List ℕ) (outputs : ℕ) (list 
   pub same : corners ks sizes outputs ≡ corners_from (drop i ks) (drop i sizes) stride (take count list)
   pub exact : length (take count list) ≡ count
   pub few : count ≤ 2 ^ i
-  pub low : All (λ c. c.offset ≤ i * 2 ^ 53) (take count list)
+  pub low : AllByRecursion (λ c. c.offset ≤ i * 2 ^ 53) (take count list)
   pub fit : sizes_fit (drop i sizes) stride ≡ true
 
 pub spreading_none : (ks : List Float) (sizes : List ℕ) (outputs : ℕ) (list : List Corner) → 1 ≤ length list → sizes_fit sizes outputs ≡ true → Spreading ks sizes outputs (set list 0 (corner one 0)) 0 1 outputs
@@ -199,7 +199,7 @@ module _ {ks : List Float} {sizes : List ℕ} {outputs : ℕ} {list : List Corne
             ∙ ap (corners_from (drop (i + 1) ks) (drop (i + 1) sizes) (stride * z)) (sym v);
         exact = ap length v ∙ sym n;
         few = omega (arith, s.exact, s.few);
-        low = subst (λ (cs : List Corner). All (λ c. c.offset ≤ (i + 1) * 2 ^ 53) cs) (sym v) (subst (λ (m : ℕ). All (λ c. c.offset ≤ m) (spread key stride old)) far (spread_far key stride (i * 2 ^ 53) old spreading_stride s.low));
+        low = subst (λ (cs : List Corner). AllByRecursion (λ c. c.offset ≤ (i + 1) * 2 ^ 53) cs) (sym v) (subst (λ (m : ℕ). AllByRecursion (λ c. c.offset ≤ m) (spread key stride old)) far (spread_far key stride (i * 2 ^ 53) old spreading_stride s.low));
         fit = (next_fit k).1;
       }
 

@@ -3,7 +3,7 @@ use Rattle.std.specs.Borrow.{Bor}
 use Rattle.std.specs.Prelude.{◌≡◌, ℕ, suc, ◌+◌, ◌-◌, ◌*◌, ◌^◌, ◌<◌, Bool, true, false, cond, ◌&&◌, ◌||◌, List, [], ◌∷◌, ◌++◌, map, length, take, replicate, pos, is_some, Some, None, Ok, Err, Option, Result, ◌==◌, from_bits, is_nan, nat_le, Float}
 use Rattle.std.specs.Float.{binary32}
 use Rattle.std.specs.Float.Ieee.{add, sub, mul, lt, eq}
-use Rattle.std.specs.List.{AllByRecursion as All}
+use Rattle.std.specs.List.{AllByRecursion}
 use Rattle.fault.specs.Checks.{Check, check, fault}
 use Rattle.fault.specs.declared.cause.Cause.TheVariants.{Count, NotFinite, UpsideDown, CountsDisagree, Size, NoTable, NoSample}
 use Rattle.fault.specs.declared.cause.Fault.{Fault}
@@ -230,7 +230,7 @@ OwnSizes t inputs (Some sizes) = (evaluable_by t inputs ≡ true) × (take input
 OwnSizes t inputs None = evaluable_by t inputs ≡ false
 
 abbrev pub OffsetsBelow : ℕ → List Corner → Type 0
-OffsetsBelow n cs = All (λ c. c.offset < n) cs
+OffsetsBelow n cs = AllByRecursion (λ c. c.offset < n) cs
 
 -- what a sum over corners answers, with what the list of sums holds then
 abbrev pub Summed : {A : Type 0} → Result (List Float) ℕ → Result A ℕ → List Float → Type 0
