@@ -1,5 +1,5 @@
 -- Which number a word writes, and how the bits of a number are written. Assumes nothing.
-use Rattle.std.specs.Prelude.{◌≡◌, ℕ, zero, suc, ◌/◌, ◌%◌, ◌^◌, ◌<◌, ◌≤◌, Bool, cond, List, [], ◌∷◌, ◌++◌, length, pos, is_some, Some, codes, Option, MatchOption, ◌≢◌, from_bits, is_nan, to_bits, Float}
+use Rattle.std.specs.Prelude.{◌≡◌, ℕ, zero, suc, ◌/◌, ◌%◌, ◌^◌, ◌<◌, ◌≤◌, cond, List, [], ◌∷◌, ◌++◌, length, pos, is_some, Some, codes, Option, MatchOption, ◌≢◌, from_bits, is_nan, to_bits, Float}
 use Rattle.std.specs.Float.{binary32}
 use Rattle.std.specs.Float.Ieee.{of_int}
 use Rattle.std.specs.Float.Parse.{is_float_text}
