@@ -1,15 +1,15 @@
 // Runs a job from standard input, or those in the files named as arguments, and prints the record.
 #![tactic(auto)]
 
-use anyhow::anyhow;
 use session::{Record, run_job};
+use std::process::ExitCode;
 use std::{env, fs, io};
 
-fn main(rt: HostRuntime) -> anyhow::Result<()> {
+fn main(rt: HostRuntime) -> anyhow::Result<ExitCode> {
     if run_all(&rt)? {
-        Ok(())
+        Ok(ExitCode::SUCCESS)
     } else {
-        Err(anyhow!("a line was not understood"))
+        Ok(ExitCode::FAILURE)
     }
 }
 
