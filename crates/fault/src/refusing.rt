@@ -1,5 +1,5 @@
 // Faults with no place of their own, and the check that gives one.
-ghost use Rattle.std.specs.Prelude.{◌≡◌, Bool, true, false, Ok, Err};
+ghost use Rattle.std.specs.Prelude.{◌≡◌, true, false, Ok, Err};
 ghost use Rattle.fault.specs.Checks.{fault};
 
 use crate::cause::{Cause, Fault};

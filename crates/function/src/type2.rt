@@ -1,8 +1,7 @@
 // Exponential functions (type 2).
-ghost use Rattle.std.specs.Prelude.{◌≡◌, ℕ, ◌<◌, ◌≤◌, Bool, ◌&&◌, ◌||◌, length};
-ghost use Rattle.std.specs.Float.{float_is_finite};
+ghost use Rattle.std.specs.Prelude.{◌≡◌, ◌<◌, ◌&&◌, ◌||◌, length};
 ghost use Rattle.fault.specs.Checks.{first_fault};
-ghost use Rattle.numeric.specs.Interval.{both_finite, rises};
+ghost use Rattle.numeric.specs.Interval.{rises};
 ghost use Rattle.numeric.specs.Lists.{every};
 ghost use Rattle.function.specs.Exponential.{c0_of, c1_of, exponential_of, given_checks, counts_fit, all_finite, counts_agree, stored, factor, mixed};
 ghost use Rattle.function.specs.Answer.{counts_of};

@@ -1,5 +1,4 @@
 // Writing Sizes, and the Encode pairs that they give where there are none, into the number list.
-ghost use Rattle.std.specs.Prelude.{◌≡◌};
 ghost use Rattle.numeric.specs.Lists.{flat, Lays};
 ghost use Rattle.sampled.specs.Sampled.{size_numbers, whole_grid};
 

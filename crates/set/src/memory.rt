@@ -1,5 +1,5 @@
 // The lists that a caller lends to a set. They carry no invariant of their own, so that they can be lent on.
-ghost use Rattle.std.specs.Prelude.{◌≡◌, ℕ, ◌+◌, ◌<◌, ◌≤◌, true, false, length, set, Ok, Err, slice_set};
+ghost use Rattle.std.specs.Prelude.{◌≡◌, ◌+◌, ◌<◌, ◌≤◌, true, false, length, Ok, Err, slice_set};
 ghost use Rattle.fault.specs.Checks.{fault};
 ghost use Rattle.fault.specs.declared.cause.Cause.TheVariants.{SetList};
 ghost use Rattle.numeric.specs.Lists.{laid};

@@ -1,5 +1,5 @@
 // Evaluating a loaded function.
-ghost use Rattle.std.specs.Prelude.{◌≡◌, ℕ, ◌<◌, ◌≤◌, length, take};
+ghost use Rattle.std.specs.Prelude.{◌≡◌, ◌<◌, ◌≤◌, length, take};
 ghost use Rattle.function.specs.Exponential.{stored};
 ghost use Rattle.function.specs.declared.record.Kind.TheVariants.{Exponential};
 ghost use Rattle.set.specs.State.{model_of, Fitting};

@@ -1,5 +1,5 @@
 // Loading: all checks first, then the writes, and last the counters that make the function visible.
-ghost use Rattle.std.specs.Prelude.{◌≡◌, ℕ, length};
+ghost use Rattle.std.specs.Prelude.{◌≡◌, length};
 ghost use Rattle.fault.specs.Checks.{first_fault};
 ghost use Rattle.function.specs.Exponential.{exponential_of};
 ghost use Rattle.function.specs.Numbers.{judged, numbers_of};
