@@ -59,7 +59,7 @@ impl Answered {
 // The same bits, or NaN for NaN.
 fn same_operand(x: f32, y: f32) -> bool
     ensures test { result ≡ same_operand x y }
-    ensures same { ((result ≡ true → x ≡ y)) × ((x ≡ y → result ≡ true)) }
+    ensures same { (result ≡ true → x ≡ y) × (x ≡ y → result ≡ true) }
 {
     f32_to_bits_with_nan(x) == f32_to_bits_with_nan(y)
 }
