@@ -1,7 +1,10 @@
 -- The refusals: each cause has a number, the layer that it belongs to, and a sentence for the record. Assumes nothing.
-use Rattle.std.specs.Prelude.{ℕ, List, codes}
+use Rattle.std.specs.Prelude.{ℕ, List, ◌++◌, codes, decimal}
 use Rattle.fault.specs.declared.cause.Cause.{Cause}
 use Rattle.fault.specs.declared.cause.Cause.TheVariants as cause
+use Rattle.fault.specs.declared.cause.Fault.{Fault}
+use Rattle.fault.specs.declared.layer.Layer.{Layer}
+use Rattle.fault.specs.declared.layer.Layer.TheVariants as layer
 
 -- layer 1 reads text, 2 is the machine of calculators and their vetting, 3 a single function, 4 the set and its units
 abbrev pub text_layer : ℕ
@@ -15,6 +18,12 @@ function_layer = 3
 
 abbrev pub set_layer : ℕ
 set_layer = 4
+
+abbrev pub layer_number : Layer → ℕ
+layer_number layer.Text = text_layer
+layer_number layer.Machine = machine_layer
+layer_number layer.Function = function_layer
+layer_number layer.Set = set_layer
 
 -- the number that a press controller logs; there is no 20
 abbrev pub number_of : Cause → ℕ
@@ -122,3 +131,12 @@ sentence_of cause.VetSamples = codes "vetting: the table holds too few samples"
 sentence_of cause.UnitShape = codes "a sample unit has an unknown width or too many tables"
 sentence_of cause.UnitStretch = codes "a stretch of a sample unit is outside its list, or a word is too great"
 sentence_of cause.Stride = codes "the stride is 0"
+
+-- the bytes of a fault in the record: the numbers of its cause and layer, where it arose, and the sentence
+abbrev pub fault_text : Fault → List ℕ
+fault_text e =
+    codes "fault " ++ (decimal (number_of e.cause)
+    ++ (codes " layer " ++ (decimal (layer_of e.cause)
+    ++ (codes " index " ++ (decimal e.index
+    ++ (codes " place " ++ (decimal e.place
+    ++ (codes " (" ++ (sentence_of e.cause ++ codes ")")))))))))

@@ -1,11 +1,13 @@
 // Every refusal by its cause, with its number, its layer and a sentence.
-ghost use Rattle.std.specs.Prelude.{◌≡◌};
-ghost use Rattle.fault.specs.Refusal.{number_of, layer_of, sentence_of};
+ghost use Rattle.std.specs.Prelude.{◌≡◌, Some};
+ghost use Rattle.fault.specs.Refusal.{number_of, layer_number, layer_of, sentence_of, fault_text};
 
+use crate::layer::Layer;
+use std::error::Error;
 use std::fmt;
 
 // What is wrong, in the order of the numbers that a controller logs. There is no number 20.
-#[derive(Clone, Copy, PartialEq, Eq)]
+#[derive(Clone, Copy, Debug, PartialEq, Eq)]
 pub enum Cause {
     SetList = 1,
     Count = 2,
@@ -43,7 +45,8 @@ pub enum Cause {
 }
 
 // Why a call was refused: the cause, the function or table that it arose in, and the place there.
-#[derive(Clone, Copy, PartialEq, Eq)]
+// Where there is none, index and place are 0 and no Option: a controller logs three numbers, and the record shows them so.
+#[derive(Clone, Copy, Debug, PartialEq, Eq)]
 pub struct Fault {
     pub cause: Cause,
     pub index: usize,
@@ -51,30 +54,22 @@ pub struct Fault {
 }
 
 impl Cause {
-    // The number of the refusal.
-    pub fn number(self) -> u8
-        ensures { result ≡ number_of self }
-    {
-        self as u8
-    }
-
-    // 1 for text, 2 for the calculators' machine, 3 for a function, 4 for the set and its units.
-    pub fn layer(self) -> u8
-        ensures { result ≡ layer_of self }
+    pub fn layer(self) -> Layer
+        ensures { layer_number result ≡ layer_of self }
     {
         match self {
             Cause::UnknownWord
             | Cause::TooManyDigits
             | Cause::Brace
             | Cause::Procedure
-            | Cause::Nesting => 1,
+            | Cause::Nesting => Layer::Text,
             Cause::Operands
             | Cause::FullStack
             | Cause::Quotient
             | Cause::Shift
             | Cause::VetOperands
             | Cause::VetUnknown
-            | Cause::VetBranches => 2,
+            | Cause::VetBranches => Layer::Machine,
             Cause::Count
             | Cause::NotFinite
             | Cause::UpsideDown
@@ -87,7 +82,7 @@ impl Cause {
             | Cause::NoSample
             | Cause::VetOutputs
             | Cause::VetPart
-            | Cause::VetSamples => 3,
+            | Cause::VetSamples => Layer::Function,
             Cause::SetList
             | Cause::Room
             | Cause::NoFunction
@@ -95,7 +90,7 @@ impl Cause {
             | Cause::OutputList
             | Cause::UnitShape
             | Cause::UnitStretch
-            | Cause::Stride => 4,
+            | Cause::Stride => Layer::Set,
         }
     }
 
@@ -143,17 +138,39 @@ impl Cause {
     }
 }
 
+impl From<Cause> for u8 {
+    ghost from_gives = { λ cause number. number ≡ number_of cause };
+
+    fn from(cause: Cause) -> u8 {
+        cause as u8
+    }
+}
+
+impl fmt::Display for Cause {
+    ghost output = { λ cause. Some (sentence_of cause) };
+
+    fn fmt<W: fmt::Write>(&self, f: &mut fmt::Formatter<W>) -> fmt::Result {
+        f.write_str(self.sentence())
+    }
+}
+
 // The record's words for a fault.
 impl fmt::Display for Fault {
+    ghost output = { λ fault. Some (fault_text fault) };
+
     fn fmt<W: fmt::Write>(&self, f: &mut fmt::Formatter<W>) -> fmt::Result {
-        let number = self.cause.number();
-        let layer = self.cause.layer();
-        let index = self.index;
-        let place = self.place;
-        let sentence = self.cause.sentence();
+        let Fault {
+            cause,
+            index,
+            place,
+        } = *self;
+        let number = u8::from(cause);
+        let layer = u8::from(cause.layer());
         write!(
             f,
-            "fault {number} layer {layer} index {index} place {place} ({sentence})"
+            "fault {number} layer {layer} index {index} place {place} ({cause})"
         )
     }
 }
+
+impl Error for Fault {}

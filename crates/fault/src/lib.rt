@@ -2,7 +2,9 @@
 #![tactic(auto)]
 
 mod cause;
+mod layer;
 mod refusing;
 
 pub use cause::{Cause, Fault};
+pub use layer::Layer;
 pub use refusing::demand;

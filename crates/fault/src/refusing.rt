@@ -1,5 +1,5 @@
 // Faults with no place of their own, and the check that gives one.
-ghost use Rattle.std.specs.Prelude.{◌≡◌, true, false, Ok, Err};
+ghost use Rattle.std.specs.Prelude.{◌≡◌, true, false, MatchResult};
 ghost use Rattle.fault.specs.Checks.{fault};
 
 use crate::cause::{Cause, Fault};
@@ -19,7 +19,7 @@ impl Fault {
 
 // Refuses by the fault where the test fails.
 pub fn demand(holds: bool, otherwise: Fault) -> Result<(), Fault>
-    ensures { elim result [ Ok _ ↦ holds ≡ true | Err e ↦ (holds ≡ false) × (e ≡ otherwise) ] }
+    ensures { MatchResult result (λ _. holds ≡ true) (λ e. (holds ≡ false) × (e ≡ otherwise)) }
 {
     if holds { Ok(()) } else { Err(otherwise) }
 }

@@ -1,28 +1,20 @@
 -- The bits of bytes: where a sample's bits lie, and the number that they spell. Assumes nothing.
-use Rattle.std.proofs.Common.{◌≡◌, ℕ, zero, suc, ◌+◌, ◌-◌, ◌*◌, ◌/◌, ◌%◌, ◌^◌, ◌<◌, ◌≤◌, true, List, [], ◌∷◌, ◌++◌, length, get_or, take, drop, Some, None, sym, refl, ap, ◌∙◌, subst, lt_of_lt_of_le, mul_assoc, mul_comm, add-mul, mul-zero, mul_right_comm, mul-div_cancel, arith, pow_mono}
+use Rattle.std.proofs.Common.{◌≡◌, ℕ, zero, suc, ◌+◌, ◌-◌, ◌*◌, ◌/◌, ◌%◌, ◌^◌, ◌<◌, ◌≤◌, List, [], ◌∷◌, ◌++◌, length, get_or, take, drop, Some, None, w16, w32, sym, refl, ap, ◌∙◌, subst, lt_of_lt_of_le, mul_assoc, mul_comm, add-mul, mul-zero, mul_right_comm, mul-div_cancel, arith, pow_mono}
 use native.Mathlib.Nat.{mul-add-div_right, mul-div-mul_right}
 use lib.Bits.{bit_and}
 use Rattle.std.proofs.lemmas.Nat.{pow-add, shr-shr, mod-pow-add, div-add-mod', mod_below, mul-le, one_shl, and_mask}
-use Rattle.std.proofs.ByRecursion.{All-append, All-take, All-drop, All-map}
+use Rattle.std.proofs.Math.Seq.{take-nil, drop-nil}
+use Rattle.std.proofs.lemmas.List.Elements.{All-nil, All-cons, All-head, All-tail, All-append, All-take, All-drop, All-map}
 use Rattle.std.proofs.lemmas.List.{length-append, length-take, drop-drop, drop_more, drop-append-le, take-append-le}
 use Rattle.std.proofs.lemmas.List.FromFn.{length-map-range_with_len, get_or-map-range_with_len}
 use Rattle.std.proofs.lemmas.Option.{slice_get-get_or, slice_get_past}
-use Rattle.std.specs.List.{slice_get, range_with_len, AllByRecursion}
-use Rattle.fault.specs.Checks.{passes}
-use Rattle.units.proofs.Checking.{own_pass}
-use Rattle.units.proofs.Reading.{is_inside, well_formed}
-use Rattle.units.specs.Directory.{covered, directory_checks}
-use Rattle.units.specs.Packed.{low_bits, bits_in, number_of, sample_from, packed_samples, packed_tables, packed_checks}
-use Rattle.units.specs.Samples.{WellFormed}
-use Rattle.units.specs.declared.directory.Stretch.{Stretch}
-
-drop_nil : {A : Type 0} (k : ℕ) → drop {A = A} k [] ≡ []
-drop_nil zero = refl
-drop_nil (suc k) = refl
-
-take_nil : {A : Type 0} (k : ℕ) → take {A = A} k [] ≡ []
-take_nil zero = refl
-take_nil (suc k) = refl
+use Rattle.std.specs.List.{slice_get, range_with_len, All}
+use Rattle.std.specs.Int.{from_be_bytes}
+use Rattle.std.specs.Simd.{first_chunks}
+use Rattle.units.specs.Packed.{low_bits, bits_in, number_of, sample_from, packed_samples}
+use Rattle.units.specs.Samples.{bits_of}
+use Rattle.units.specs.declared.samples.Width.{Width}
+use Rattle.units.specs.declared.samples.Width.TheVariants.{One, Two, Four, Eight, Sixteen, TwentyFour, ThirtyTwo}
 
 -- ---- the bits of one number
 
@@ -59,14 +51,14 @@ number_low (suc w) x =
 
 pub drop_bits : (q : ℕ) (bs : List ℕ) → drop (q * 8) (bits_in bs) ≡ bits_in (drop q bs)
 drop_bits zero bs = refl
-drop_bits (suc q) [] = drop_nil (suc q * 8)
+drop_bits (suc q) [] = drop-nil (suc q * 8)
 drop_bits (suc q) (b ∷ bs) =
     let e : suc q * 8 ≡ suc (suc (suc (suc (suc (suc (suc (suc (q * 8)))))))) = omega arith in
     ap (λ (k : ℕ). drop k (bits_in (b ∷ bs))) e ∙ drop_bits q bs
 
 pub take_bits : (n : ℕ) (bs : List ℕ) → take (n * 8) (bits_in bs) ≡ bits_in (take n bs)
 take_bits zero bs = refl
-take_bits (suc n) [] = take_nil (suc n * 8)
+take_bits (suc n) [] = take-nil (suc n * 8)
 take_bits (suc n) (b ∷ bs) =
     let e : suc n * 8 ≡ suc (suc (suc (suc (suc (suc (suc (suc (n * 8)))))))) = omega arith in
     ap (λ (k : ℕ). take k (bits_in (b ∷ bs))) e ∙ ap (λ (l : List ℕ). low_bits 8 b ++ l) (take_bits n bs)
@@ -97,31 +89,25 @@ number_more bs b h =
     let own : b % 256 ≡ b = omega arith in
     ap number_of (bits_append bs (b ∷ [])) ∙ number_append (bits_in bs) (low_bits 8 b) ∙ ap (λ (k : ℕ). number_of (bits_in bs) * 256 + k) (low ∙ own)
 
-number_lt : (xs : List ℕ) → AllByRecursion (λ b. b < 2) xs → number_of xs < 2 ^ length xs
+number_lt : (xs : List ℕ) → All (λ b. b < 2) xs → number_of xs < 2 ^ length xs
 number_lt [] h = omega arith
 number_lt (x ∷ xs) h =
-    let rest = number_lt xs h.1 in
-    let first : x * 2 ^ length xs ≤ 1 * 2 ^ length xs = mul-le x (2 ^ length xs) 1 (2 ^ length xs) (omega (arith, h.0)) (omega arith) in
+    let rest = number_lt xs (All-tail (λ b. b < 2) x xs h) in
+    let first : x * 2 ^ length xs ≤ 1 * 2 ^ length xs = mul-le x (2 ^ length xs) 1 (2 ^ length xs) (omega (arith, All-head (λ b. b < 2) x xs h)) (omega arith) in
     let next : 1 + length xs ≡ suc (length xs) = omega arith in
     let twice : 2 * 2 ^ length xs ≡ 2 ^ suc (length xs) = sym (pow-add 2 1 (length xs)) ∙ ap (λ (k : ℕ). 2 ^ k) next in
     omega arith
 
-low_below : (n x : ℕ) → AllByRecursion (λ b. b < 2) (low_bits n x)
-low_below zero x = tt
-low_below (suc n) x = (mod_below (x / 2 ^ n) 2 (omega arith), low_below n x)
+low_below : (n x : ℕ) → All (λ b. b < 2) (low_bits n x)
+low_below zero x = All-nil (λ b. b < 2)
+low_below (suc n) x = All-cons (λ b. b < 2) (x / 2 ^ n % 2) (low_bits n x) (mod_below (x / 2 ^ n) 2 (omega arith)) (low_below n x)
 
-bits_below : (bs : List ℕ) → AllByRecursion (λ b. b < 2) (bits_in bs)
-bits_below [] = tt
+bits_below : (bs : List ℕ) → All (λ b. b < 2) (bits_in bs)
+bits_below [] = All-nil (λ b. b < 2)
 bits_below (b ∷ bs) = All-append (λ k. k < 2) (low_bits 8 b) (bits_in bs) (low_below 8 b) (bits_below bs)
 
 pub number_bits_lt : (bs : List ℕ) → number_of (bits_in bs) < 2 ^ (8 * length bs)
 number_bits_lt bs = subst (λ (k : ℕ). number_of (bits_in bs) < 2 ^ k) (length_bits bs) (number_lt (bits_in bs) (bits_below bs))
-
--- three bytes and one more fit 32 bits
-pub number_fits : (bs : List ℕ) (i : ℕ) → i < length bs → length bs ≤ 4 → number_of (bits_in (take i bs)) < 2 ^ 24
-number_fits bs i h k =
-    let short : 8 * length (take i bs) ≤ 24 = omega (arith, length-take i bs) in
-    lt_of_lt_of_le (number_bits_lt (take i bs)) (pow_mono short)
 
 pub sample_lt : (w i : ℕ) (bs : List ℕ) → sample_from w (bits_in bs) i < 2 ^ w
 sample_lt w i bs =
@@ -181,12 +167,8 @@ nth_sample w bs i v h e =
 pub no_sample : (w : ℕ) (bs : List ℕ) (i : ℕ) → 8 * length bs / w ≤ i → None ≡ slice_get (packed_samples w bs) i
 no_sample w bs i h = sym (slice_get_past (packed_samples w bs) i (omega (arith, length_samples w bs)))
 
-pub samples_below : (w : ℕ) (bs : List ℕ) → AllByRecursion (λ n. n < 2 ^ w) (packed_samples w bs)
-samples_below w bs = All-map (λ n. n < 2 ^ w) (sample_from w (bits_in bs)) (range_with_len 0 (8 * length bs / w)) (every (range_with_len 0 (8 * length bs / w)))
-  where
-    every : (is : List ℕ) → AllByRecursion (λ i. sample_from w (bits_in bs) i < 2 ^ w) is
-    every [] = tt
-    every (i ∷ is) = (sample_lt w i bs, every is)
+pub samples_below : (w : ℕ) (bs : List ℕ) → All (λ n. n < 2 ^ w) (packed_samples w bs)
+samples_below w bs = All-map (λ n. n < 2 ^ w) (sample_from w (bits_in bs)) (range_with_len 0 (8 * length bs / w)) (λ k d h. sample_lt w _ bs)
 
 -- how many: per byte, and by whole bytes
 pub count_in_bytes : (w per n : ℕ) → w * per ≡ 8 → 8 * n / w ≡ n * per
@@ -197,6 +179,15 @@ count_in_bytes w per n e =
 
 pub count_of_bytes : (k n : ℕ) → 8 * n / (k * 8) ≡ n / k
 count_of_bytes k n = ap (λ (m : ℕ). m / (k * 8)) (mul_comm 8 n) ∙ mul-div-mul_right n k (omega arith)
+
+pub some_bits : (w : Width) → (0 < bits_of w) × (bits_of w ≤ 32)
+some_bits One = (omega arith, omega arith)
+some_bits Two = (omega arith, omega arith)
+some_bits Four = (omega arith, omega arith)
+some_bits Eight = (omega arith, omega arith)
+some_bits Sixteen = (omega arith, omega arith)
+some_bits TwentyFour = (omega arith, omega arith)
+some_bits ThirtyTwo = (omega arith, omega arith)
 
 -- 8 * n / b in two parts, neither of which is more than n can be
 pub count_split : (n b : ℕ) → 0 < b → 8 * n / b ≡ n / b * 8 + n % b * 8 / b
@@ -233,16 +224,48 @@ no_bytes n bs i h = no_sample (n * 8) bs i (omega (arith, count_of_bytes n (leng
 pub some_bytes : (n : ℕ) (bs : List ℕ) (i v : ℕ) → i < length bs / n → v ≡ number_of (bits_in (take n (drop (i * n) bs))) → Some v ≡ slice_get (packed_samples (n * 8) bs) i
 some_bytes n bs i v h e = nth_sample (n * 8) bs i v (omega (arith, count_of_bytes n (length bs))) (e ∙ sym (of_bytes n bs i))
 
--- the bytes of a sample lie in the list
-pub bytes_room : (n len i : ℕ) → i < len / n → i * n + n ≤ len
-bytes_room n len i h =
-    let front = mul-le (i + 1) n (len / n) n (omega arith) (omega arith) in
-    omega (arith, div-add-mod' len n, add-mul i 1 n)
+-- ---- samples of whole bytes, chunk by chunk
 
--- ---- a directory that passes
+pub length_chunks : (n k : ℕ) (bs : List ℕ) → length (first_chunks n k bs) ≡ k
+length_chunks n zero bs = refl
+length_chunks n (suc k) bs = ap suc (length_chunks n k (drop n bs))
 
-pub in_bytes : (n : ℕ) (ss : List Stretch) (i : ℕ) (s : Stretch) → passes (directory_checks (packed_checks n) ss) ≡ true → Some s ≡ slice_get ss i → s.start + s.length ≤ n
-in_bytes n ss i s p e = is_inside n i s [] (own_pass (packed_checks n) ss i s p (sym e))
+pub chunk_at : (n k i : ℕ) (bs d : List ℕ) → i < k → get_or (first_chunks n k bs) i d ≡ take n (drop (i * n) bs)
+chunk_at n zero i bs d h = absurd (omega arith)
+chunk_at n (suc k) zero bs d h = let e : 0 ≡ 0 * n = omega arith in ap (λ (m : ℕ). take n (drop m bs)) e
+chunk_at n (suc k) (suc i) bs d h =
+    let place : n + i * n ≡ suc i * n = omega (arith, add-mul i 1 n) in
+    chunk_at n k i (drop n bs) d (omega arith) ∙ ap (take n) (drop-drop (i * n) n bs ∙ ap (λ (m : ℕ). drop m bs) place)
 
-pub packed_sound : (bytes : List ℕ) (ss : List Stretch) → passes (directory_checks (packed_checks (length bytes)) ss) ≡ true → WellFormed (packed_tables bytes ss)
-packed_sound bytes ss p = well_formed (packed_checks (length bytes)) (λ s. packed_samples s.width (covered s bytes)) ss (λ i s q. samples_below s.width (covered s bytes)) p
+pub one_byte : (a : ℕ) → a < 256 → number_of (bits_in (a ∷ [])) ≡ a
+one_byte a h = let e = number_more [] a h in omega arith
+
+pub two_bytes : (a b : ℕ) → a < 256 → b < 256 → number_of (bits_in (a ∷ b ∷ [])) ≡ a * 256 + b
+two_bytes a b h k = let e = number_more (a ∷ []) b k in omega (arith, one_byte a h)
+
+pub three_bytes : (a b c : ℕ) → a < 256 → b < 256 → c < 256 → number_of (bits_in (a ∷ b ∷ c ∷ [])) ≡ (a * 256 + b) * 256 + c
+three_bytes a b c h k l = let e = number_more (a ∷ b ∷ []) c l in omega (arith, two_bytes a b h k)
+
+pub four_bytes : (a b c d : ℕ) → a < 256 → b < 256 → c < 256 → d < 256 → number_of (bits_in (a ∷ b ∷ c ∷ d ∷ [])) ≡ ((a * 256 + b) * 256 + c) * 256 + d
+four_bytes a b c d h k l m = let e = number_more (a ∷ b ∷ c ∷ []) d m in omega (arith, three_bytes a b c h k l)
+
+pub of_three : (bs : List ℕ) → length bs ≡ 3 → ((i : ℕ) → get_or bs i 0 < 256) → get_or bs 0 0 * 65536 + get_or bs 1 0 * 256 + get_or bs 2 0 ≡ number_of (bits_in bs)
+of_three [] l f = absurd (omega arith)
+of_three (a ∷ []) l f = absurd (omega arith)
+of_three (a ∷ b ∷ []) l f = absurd (omega arith)
+of_three (a ∷ b ∷ c ∷ []) l f = omega (arith, three_bytes a b c (f 0) (f 1) (f 2))
+of_three (a ∷ b ∷ c ∷ d ∷ r) l f = absurd (omega arith)
+
+pub of_two : (bs : List ℕ) → length bs ≡ 2 → ((i : ℕ) → get_or bs i 0 < 256) → from_be_bytes w16 bs ≡ number_of (bits_in bs)
+of_two [] l f = absurd (omega arith)
+of_two (a ∷ []) l f = absurd (omega arith)
+of_two (a ∷ b ∷ []) l f = omega (arith, two_bytes a b (f 0) (f 1))
+of_two (a ∷ b ∷ c ∷ r) l f = absurd (omega arith)
+
+pub of_four : (bs : List ℕ) → length bs ≡ 4 → ((i : ℕ) → get_or bs i 0 < 256) → from_be_bytes w32 bs ≡ number_of (bits_in bs)
+of_four [] l f = absurd (omega arith)
+of_four (a ∷ []) l f = absurd (omega arith)
+of_four (a ∷ b ∷ []) l f = absurd (omega arith)
+of_four (a ∷ b ∷ c ∷ []) l f = absurd (omega arith)
+of_four (a ∷ b ∷ c ∷ d ∷ []) l f = omega (arith, four_bytes a b c d (f 0) (f 1) (f 2) (f 3))
+of_four (a ∷ b ∷ c ∷ d ∷ x ∷ r) l f = absurd (omega arith)

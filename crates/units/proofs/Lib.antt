@@ -5,4 +5,3 @@ pub mod Nans
 pub mod Reading
 pub mod RoundNearest
 pub mod RootNearest
-pub mod Wording

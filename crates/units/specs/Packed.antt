@@ -1,10 +1,6 @@
 -- The packed sample unit: a list of bytes, one sample after the other with no bits between them. Assumes nothing.
 use Rattle.std.specs.Prelude.{ℕ, zero, suc, ◌+◌, ◌*◌, ◌/◌, ◌%◌, ◌^◌, List, [], ◌∷◌, ◌++◌, map, length, take, drop}
 use Rattle.std.specs.List.{range_with_len}
-use Rattle.fault.specs.Checks.{Check}
-use Rattle.units.specs.Directory.{covered, width_of, inside_check}
-use Rattle.units.specs.Samples.{Table}
-use Rattle.units.specs.declared.directory.Stretch.{Stretch}
 
 -- ---- bits, the highest first
 
@@ -32,13 +28,3 @@ sample_from width bits i = number_of (take width (drop (i * width) bits))
 -- all samples in the bytes; bits left over at the end belong to none
 abbrev pub packed_samples : ℕ → List ℕ → List ℕ
 packed_samples width bytes = map (sample_from width (bits_in bytes)) (range_with_len 0 (8 * length bytes / width))
-
-abbrev pub packed_table : List ℕ → Stretch → Table
-packed_table bytes s = record { width = width_of s.width; samples = packed_samples s.width (covered s bytes) }
-
-abbrev pub packed_tables : List ℕ → List Stretch → List Table
-packed_tables bytes directory = map (packed_table bytes) directory
-
--- for a list of n bytes
-abbrev pub packed_checks : ℕ → ℕ → Stretch → List Check
-packed_checks n table s = inside_check n table s ∷ []

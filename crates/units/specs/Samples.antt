@@ -1,8 +1,9 @@
 -- Sample tables: their widths, and what a sample unit answers of them. Assumes nothing.
-use Rattle.std.specs.Prelude.{ℕ, ◌-◌, ◌^◌, ◌<◌, ◌≤◌, min, Bool, cond, List, [], ◌∷◌, length, Some, None, Option, nat_eq}
-use Rattle.std.specs.List.{slice_get, AllByRecursion}
+use Rattle.std.specs.Prelude.{◌≡◌, ℕ, ◌-◌, ◌^◌, ◌<◌, ◌≤◌, min, List, [], ◌∷◌, ◌++◌, length, Some, None, Option, Result, MatchResult, nat_eq, codes, decimal}
+use Rattle.std.specs.List.{slice_get, find, All}
 use Rattle.units.specs.declared.samples.Width.{Width}
 use Rattle.units.specs.declared.samples.Width.TheVariants as variant
+use Rattle.units.specs.declared.samples.UnknownWidth.{UnknownWidth}
 
 -- ---- widths
 
@@ -18,14 +19,16 @@ bits_of variant.ThirtyTwo = 32
 abbrev pub widths : List Width
 widths = variant.One ∷ variant.Two ∷ variant.Four ∷ variant.Eight ∷ variant.Sixteen ∷ variant.TwentyFour ∷ variant.ThirtyTwo ∷ []
 
--- the first that passes a test
-abbrev pub first_of : {A : Type 0} → (A → Bool) → List A → Option A
-first_of test [] = None
-first_of test (x ∷ xs) = cond (test x) (Some x) (first_of test xs)
-
 -- the width of so many bits
 abbrev pub width_from : ℕ → Option Width
-width_from bits = first_of (λ w. nat_eq (bits_of w) bits) widths
+width_from bits = find (λ w. nat_eq (bits_of w) bits) widths
+
+-- that width, or the number itself where no width has so many bits
+abbrev pub WidthOf : ℕ → Result Width UnknownWidth → Type 0
+WidthOf bits r = MatchResult r (λ width. width_from bits ≡ Some width) (λ unknown. (width_from bits ≡ None) × (unknown.0 ≡ bits))
+
+abbrev pub unknown_width_text : UnknownWidth → List ℕ
+unknown_width_text unknown = codes "no sample has " ++ (decimal unknown.0 ++ codes " bits")
 
 -- ---- tables
 
@@ -38,7 +41,7 @@ most_tables = 64
 
 -- at most 64 tables, and no sample has more bits than its table's width
 abbrev pub WellFormed : List Table → Type 0
-WellFormed ts = (length ts ≤ most_tables) × AllByRecursion (λ t. AllByRecursion (λ sample. sample < 2 ^ bits_of t.width) t.samples) ts
+WellFormed ts = (length ts ≤ most_tables) × All (λ t. All (λ sample. sample < 2 ^ bits_of t.width) t.samples) ts
 
 -- ---- answers: none exactly where the table or the index is outside
 

@@ -8,7 +8,7 @@ use crate::question::Question;
 pub trait Arithmetic {
     ghost meaning: { Self → Question → Float → Float → Float };
 
-    // Where a question has one operand, y is +0.
+    // Where a question has one operand, y is +0: recorded answers compare y too, so the meaning is of three values.
     fn answer(&mut self, question: Question, x: f32, y: f32) -> f32
         ensures value { result ≡ meaning self.old question x y }
         ensures keeps { meaning self.new ≡ meaning self.old };

@@ -1,17 +1,17 @@
-// The directory of a sample unit, and the checks that a unit passes before it answers.
-ghost use Rattle.std.specs.Prelude.{◌≡◌, ℕ, ◌+◌, List, nat_le};
-ghost use Rattle.fault.specs.Checks.{Check, first_fault};
-ghost use Rattle.std.specs.List.{slice_get};
-ghost use Rattle.units.specs.Directory.{given_width, for_each, width_checks, directory_checks, passing, refusal};
-ghost use Rattle.units.specs.declared.directory.Stretch.{Stretch};
+// The directory of a sample unit.
+ghost use Rattle.std.specs.Prelude.{◌≡◌, ◌+◌, ◌≤◌, length, nat_le};
+ghost use Rattle.std.specs.Result.{result_err};
+ghost use Rattle.fault.specs.Checks.{first_fault};
+ghost use Rattle.units.specs.Directory.{covered, is_width, width_of, for_each, width_checks};
 
 use crate::samples::Width;
-use fault::{Cause, Fault};
+use fault::{Cause, Fault, demand};
 
 pub(crate) const MOST_TABLES: usize = 64;
 
 // A table: the bits of a sample, and where in the unit's list it starts and how long it is, in bytes or in words.
-#[derive(Clone, Copy)]
+// The bits stay a number: a directory with bits that no sample has is taken too, and its refusal is the answer.
+#[derive(Clone, Copy, Debug)]
 pub struct Stretch {
     pub width: u32,
     pub start: usize,
@@ -25,91 +25,36 @@ impl Stretch {
     {
         self.start <= entries && self.length <= entries - self.start
     }
-}
 
-// What is checked of one table.
-pub(crate) trait Rule {
-    ghost checks: { Self → ℕ → Stretch → List Check };
+    // Whether its samples have one of the seven widths.
+    fn has_width(&self) -> bool
+        ensures { result ≡ is_width self.now.width }
+    {
+        Width::try_from(self.width).is_ok()
+    }
 
-    fn fault(&self, table: usize, stretch: Stretch) -> Option<Fault>
-        ensures { result ≡ first_fault (checks self.now table stretch) };
-}
+    // The width of its samples; in a directory that passed the checks it has one of the seven.
+    pub(crate) fn sample_width(&self) -> Width
+        ensures { result ≡ width_of self.now.width }
+    {
+        Width::try_from(self.width).unwrap_or(Width::One)
+    }
 
-// The width is one of the seven.
-#[derive(Clone, Copy)]
-struct KnownWidth;
-
-impl Rule for KnownWidth {
-    ghost checks = { λ _. width_checks };
-
-    fn fault(&self, table: usize, stretch: Stretch) -> Option<Fault> {
-        match Width::from_bits(stretch.width) {
-            Some(_) => None,
-            None => Some(Fault::new(Cause::UnitShape, table)),
-        }
+    // What it covers of a list.
+    pub(crate) fn part_of<'a, T>(&self, entries: &'a [T]) -> &'a [T]
+        requires { self.now.start + self.now.length ≤ length entries.now }
+        ensures { result.now ≡ covered self.now entries.now }
+    {
+        &entries[self.start..self.start + self.length]
     }
 }
 
-// The first fault of a table, table by table.
-fn first_fault<R: Rule>(rule: &R, directory: &[Stretch]) -> Option<Fault>
-    ensures { result ≡ first_fault (for_each (R.checks rule.now) 0 directory.now) }
+// Refuses a directory for its first width that is none of the seven.
+pub(crate) fn check_widths(directory: &[Stretch]) -> Result<(), Fault>
+    ensures { result_err result ≡ first_fault (for_each width_checks 0 directory.now) }
 {
     for (table, stretch) in directory.iter().enumerate() {
-        if let Some(fault) = rule.fault(table, *stretch) {
-            return Some(fault);
-        }
+        demand(stretch.has_width(), Fault::new(Cause::UnitShape, table))?;
     }
-    None
-}
-
-// The first fault of a directory: of the number of tables, of a width, and then by the rule.
-pub(crate) fn directory_fault<R: Rule>(rule: &R, directory: &[Stretch]) -> Option<Fault>
-    ensures { result ≡ first_fault (directory_checks (R.checks rule.now) directory.now) }
-{
-    if directory.len() > MOST_TABLES {
-        return Some(Fault::new(Cause::UnitShape, 0));
-    }
-    if let Some(fault) = first_fault(&KnownWidth, directory) {
-        return Some(fault);
-    }
-    first_fault(rule, directory)
-}
-
-// The directory, or an empty one where it has a fault.
-pub(crate) fn checked<'a, R: Rule>(rule: &R, directory: &'a [Stretch]) -> &'a [Stretch]
-    ensures { result.now ≡ passing (R.checks rule.now) directory.now }
-{
-    match directory_fault(rule, directory) {
-        None => directory,
-        Some(_) => &directory[0..0],
-    }
-}
-
-// The stretch of the table, if there is one.
-pub(crate) fn stretch_of(directory: &[Stretch], table: usize) -> Option<Stretch>
-    ensures { result ≡ slice_get directory.now table }
-{
-    if table < directory.len() {
-        Some(directory[table])
-    } else {
-        None
-    }
-}
-
-// The width of the table, if there is one.
-pub(crate) fn width_of(directory: &[Stretch], table: usize) -> Option<Width>
-    ensures { result ≡ given_width (slice_get directory.now table) }
-{
-    let stretch = stretch_of(directory, table)?;
-    Width::from_bits(stretch.width)
-}
-
-// A check's answer for the fault that it found, if any.
-pub(crate) fn refuse(fault: Option<Fault>) -> Result<(), Fault>
-    ensures { refusal result ≡ fault }
-{
-    match fault {
-        Some(fault) => Err(fault),
-        None => Ok(()),
-    }
+    Ok(())
 }

@@ -1,4 +1,5 @@
 // The unit that needs no hardware: roots, and powers with small whole exponents.
+// What it has no answer for is NaN: a unit refuses nothing, and its meaning fixes this value.
 ghost use Rattle.std.specs.Prelude.{◌≡◌, false, T};
 ghost use Rattle.std.specs.Float.Ieee.{eq, le};
 ghost use Rattle.std.specs.Float.{float_is_finite, inf};
@@ -11,12 +12,13 @@ use std::num::{nearest_u32_to_f32, saturating_f32_to_u32};
 // The largest exponent that is multiplied out.
 const MOST_FACTORS: u32 = 64;
 
-#[derive(Clone, Copy)]
+#[derive(Clone, Copy, Debug)]
 pub struct House;
 
 impl Arithmetic for House {
     ghost meaning = { λ _. spec.house };
 
+    #[tactic(auto, using(crate::proofs::Nans::nan_is))]
     fn answer(&mut self, question: Question, x: f32, y: f32) -> f32 {
         match question {
             Question::Root => root(x),
@@ -42,6 +44,7 @@ pub fn root(x: f32) -> f32
 }
 
 // The base multiplied e times, each product rounded, for a whole e from 0 to 64; NaN for any other.
+#[tactic(auto, using(crate::proofs::Nans::nan_is))]
 pub fn power(base: f32, e: f32) -> f32
     ensures { result ≡ spec.power base e }
 {
@@ -57,9 +60,5 @@ pub fn power(base: f32, e: f32) -> f32
 fn product(base: f32, n: u32) -> f32
     ensures { result ≡ spec.product base n }
 {
-    let mut product = 1.0;
-    for _ in 0..n {
-        product *= base;
-    }
-    product
+    (0..n).fold(1.0, |product, _| product * base)
 }

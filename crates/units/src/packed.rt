@@ -1,137 +1,79 @@
 // The sample unit whose tables lie in a list of bytes, one sample after the other, the highest bit first.
-ghost use Rattle.std.specs.Prelude.{◌≡◌, ◌+◌, ◌-◌, ◌*◌, ◌/◌, ◌^◌, ◌<◌, ◌≤◌, min, true, [], length, if◌then◌else◌};
-ghost use Rattle.fault.specs.Checks.{first_fault, passes};
+ghost use Rattle.std.specs.Prelude.{◌≡◌, ◌-◌, ◌*◌, ◌/◌, ◌^◌, ◌<◌, ◌≤◌, min, true, length, None, Some, MatchOption};
 ghost use Rattle.std.specs.List.{slice_get};
-ghost use Rattle.units.specs.Directory.{covered, is_width, directory_checks, refusal};
-ghost use Rattle.units.specs.Packed.{bits_in, number_of, packed_samples, packed_checks, packed_tables};
+ghost use Rattle.units.specs.Packed.{bits_in, number_of, packed_samples};
+ghost use Rattle.units.specs.Samples.{bits_of};
 
-use crate::directory::{Rule, Stretch, checked, directory_fault, refuse, stretch_of, width_of};
-use crate::samples::{Samples, Width};
-use fault::{Cause, Fault};
+use crate::entry::Entry;
+use crate::samples::Width;
+use crate::unit::SampleUnit;
 
-#[derive(Clone, Copy)]
-pub struct Packed<'a> {
-    bytes: &'a [u8],
-    directory: &'a [Stretch],
-    ghost ok: { passes (directory_checks (packed_checks (length bytes.now)) directory.now) ≡ true },
-}
+// The unit over bytes.
+pub type Packed<'a> = SampleUnit<'a, u8>;
 
-impl<'a> Packed<'a> {
-    // Why no unit can be made of them, if so.
-    pub fn check(bytes: &[u8], directory: &[Stretch]) -> Result<(), Fault>
-        ensures { refusal result ≡ first_fault (directory_checks (packed_checks (length bytes.now)) directory.now) }
-    {
-        refuse(directory_fault(&InBytes { count: bytes.len() }, directory))
+impl Entry for u8 {
+    ghost can_hold = { λ _ _. true };
+
+    ghost samples = { λ width bytes. packed_samples (bits_of width) bytes };
+
+    // Bytes spell samples, whatever they are.
+    fn first_misfit(_bytes: &[u8], _width: Width) -> Option<usize> {
+        None
     }
 
-    // The unit, or one without tables where the check fails.
-    pub fn new(bytes: &'a [u8], directory: &'a [Stretch]) -> Packed<'a>
-        ensures { packed_tables result.bytes.now result.directory.now ≡ (if passes (directory_checks (packed_checks (length bytes.now)) directory.now) then packed_tables bytes.now directory.now else []) }
-    {
-        let rule = InBytes { count: bytes.len() };
-        Packed {
-            bytes,
-            directory: checked(&rule, directory),
+    #[tactic(auto, using(crate::proofs::Bits::some_bits))]
+    fn count(bytes: &[u8], width: Width) -> usize {
+        // 8 * length / bits, without that product.
+        let length = bytes.len();
+        let bits = u32::from(width) as usize;
+        (length / bits)
+            .saturating_mul(8)
+            .saturating_add(length % bits * 8 / bits)
+    }
+
+    fn sample(bytes: &[u8], width: Width, index: usize) -> Option<u32> {
+        match width {
+            Width::One => sample_in_byte(bytes, 1, index),
+            Width::Two => sample_in_byte(bytes, 2, index),
+            Width::Four => sample_in_byte(bytes, 4, index),
+            Width::Eight => {
+                let [byte] = bytes_at::<1>(bytes, index)?;
+                Some(u32::from(byte))
+            }
+            Width::Sixteen => {
+                let spelt = bytes_at::<2>(bytes, index)?;
+                Some(u32::from(u16::from_be_bytes(spelt)))
+            }
+            Width::TwentyFour => {
+                let [high, middle, low] = bytes_at::<3>(bytes, index)?;
+                Some(u32::from_be_bytes([0, high, middle, low]))
+            }
+            Width::ThirtyTwo => {
+                let spelt = bytes_at::<4>(bytes, index)?;
+                Some(u32::from_be_bytes(spelt))
+            }
         }
     }
 }
 
-impl Samples for Packed<'_> {
-    ghost tables = { λ u. packed_tables u.bytes.now u.directory.now };
-
-    fn width(&self, table: usize) -> Option<Width> {
-        width_of(self.directory, table)
-    }
-
-    fn count(&self, table: usize) -> Option<usize> {
-        let stretch = stretch_of(self.directory, table)?;
-        Some(count_of(stretch.length, stretch.width as usize))
-    }
-
-    fn sample(&self, table: usize, index: usize) -> Option<u32> {
-        let stretch = stretch_of(self.directory, table)?;
-        sample_of(self.bytes, stretch, index)
-    }
-}
-
-// The stretch lies in so many bytes.
-#[derive(Clone, Copy)]
-struct InBytes {
-    count: usize,
-}
-
-impl Rule for InBytes {
-    ghost checks = { λ u. packed_checks u.count };
-
-    fn fault(&self, table: usize, stretch: Stretch) -> Option<Fault> {
-        if stretch.is_inside(self.count) {
-            None
-        } else {
-            Some(Fault::new(Cause::UnitStretch, table))
-        }
-    }
-}
-
-// How many samples the bytes hold, 8 * length / bits, or usize::MAX where that is more.
-fn count_of(length: usize, bits: usize) -> usize
-    requires { (0 < bits) × (bits ≤ 32) }
-    ensures { result ≡ min (8 * length / bits) (2 ^ 64 - 1) }
-{
-    (length / bits)
-        .saturating_mul(8)
-        .saturating_add(length % bits * 8 / bits)
-}
-
-// The sample at the index of the stretch, if it holds so many.
-fn sample_of(bytes: &[u8], stretch: Stretch, index: usize) -> Option<u32>
-    requires inside { stretch.start + stretch.length ≤ length bytes.now }
-    requires known { is_width stretch.width ≡ true }
-    ensures { result ≡ slice_get (packed_samples stretch.width (covered stretch bytes.now)) index }
-{
-    let start = stretch.start;
-    let part = &bytes[start..start + stretch.length];
-    let bits = stretch.width as usize;
-    if bits < 8 {
-        sample_in_byte(part, bits, index)
-    } else {
-        sample_of_bytes(part, bits / 8, index)
-    }
-}
-
-// Below 8 bits a sample lies in one byte.
+// Below 8 bits a sample lies in one byte. The bits are a number here, since the place is computed with them.
+#[tactic(auto, using(crate::proofs::Bits::byte_room))]
 fn sample_in_byte(bytes: &[u8], bits: usize, index: usize) -> Option<u32>
     requires { (bits * (8 / bits) ≡ 8) × (bits < 8) }
     ensures { result ≡ slice_get (packed_samples bits bytes.now) index }
 {
     let per_byte = 8 / bits;
-    let at = index / per_byte;
-    if at >= bytes.len() {
-        return None;
-    }
+    let byte = bytes.get(index / per_byte)?;
     let shift = 8 - bits * (index % per_byte + 1);
-    Some((u32::from(bytes[at]) >> shift) & ((1 << bits) - 1))
+    Some((u32::from(*byte) >> shift) & ((1 << bits) - 1))
 }
 
-// From 8 bits on a sample is whole bytes.
-fn sample_of_bytes(bytes: &[u8], size: usize, index: usize) -> Option<u32>
-    requires { (0 < size) × (size ≤ 4) }
-    ensures { result ≡ slice_get (packed_samples (size * 8) bytes.now) index }
+// From 8 bits on a sample is whole bytes, the highest first.
+fn bytes_at<const N: usize>(bytes: &[u8], index: usize) -> Option<[u8; N]>
+    requires { 0 < N }
+    ensures { MatchOption result (None ≡ slice_get (packed_samples (N * 8) bytes.now) index) (λ spelt. Some (number_of (bits_in spelt)) ≡ slice_get (packed_samples (N * 8) bytes.now) index) }
 {
-    if index >= bytes.len() / size {
-        return None;
-    }
-    let start = index * size;
-    Some(number_of(&bytes[start..start + size]))
-}
-
-// The number that the bytes spell, the highest first.
-fn number_of(bytes: &[u8]) -> u32
-    requires { length bytes.now ≤ 4 }
-    ensures { result ≡ number_of (bits_in bytes.now) }
-{
-    let mut number = 0;
-    for byte in bytes {
-        number = number * 256 + u32::from(*byte);
-    }
-    number
+    let (chunks, _) = bytes.as_chunks::<N>();
+    let chunk = chunks.get(index)?;
+    Some(*chunk)
 }

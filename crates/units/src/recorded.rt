@@ -7,7 +7,8 @@ use crate::question::Question;
 use std::num::f32_to_bits_with_nan;
 
 // A question by its code, its operands and what was answered. Where a question has one operand, y is +0.
-#[derive(Clone, Copy)]
+// The code stays a number: a record of a code that no question has is taken too, and then never fits.
+#[derive(Clone, Copy, Debug)]
 pub struct Answered {
     pub code: u8,
     pub x: f32,
@@ -15,7 +16,7 @@ pub struct Answered {
     pub answer: f32,
 }
 
-#[derive(Clone, Copy)]
+#[derive(Clone, Copy, Debug)]
 pub struct Recorded<'a> {
     items: &'a [Answered],
 }
@@ -36,27 +37,25 @@ impl Arithmetic for Recorded<'_> {
     }
 }
 
-// The answer of the first record that fits, or NaN.
+// The answer of the first record that fits, or NaN: a unit refuses nothing, and its meaning fixes this value.
 fn first_answer(items: &[Answered], question: Question, x: f32, y: f32) -> f32
     ensures { result ≡ recorded items.now question x y }
 {
-    for item in items {
-        if item.fits(question, x, y) {
-            return item.answer;
-        }
-    }
-    f32::NAN
+    items
+        .iter()
+        .find(|item| item.fits(question, x, y))
+        .map_or(f32::NAN, |item| item.answer)
 }
 
 impl Answered {
     fn fits(&self, question: Question, x: f32, y: f32) -> bool
         ensures { result ≡ fitting question x y self.now }
     {
-        self.code == question.code() && same_operand(self.x, x) && same_operand(self.y, y)
+        self.code == u8::from(question) && same_operand(self.x, x) && same_operand(self.y, y)
     }
 }
 
-// The same bits, or NaN for NaN.
+// The same bits, or NaN for NaN. By hand, since == on floats takes the zeros for one, and no NaN for another.
 fn same_operand(x: f32, y: f32) -> bool
     ensures test { result ≡ same_operand x y }
     ensures same { (result ≡ true → x ≡ y) × (x ≡ y → result ≡ true) }

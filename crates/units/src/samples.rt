@@ -1,9 +1,12 @@
 // What gives a function the samples of its tables.
-ghost use Rattle.std.specs.Prelude.{◌≡◌, ◌-◌, ◌^◌, List};
-ghost use Rattle.units.specs.Samples.{Table, WellFormed, bits_of, width_from, width_in, count_in, sample_in};
+ghost use Rattle.std.specs.Prelude.{◌≡◌, ◌-◌, ◌^◌, List, Some};
+ghost use Rattle.units.specs.Samples.{Table, WellFormed, bits_of, WidthOf, unknown_width_text, width_in, count_in, sample_in};
+
+use std::error::Error;
+use std::fmt;
 
 // The bits of a sample.
-#[derive(Clone, Copy, PartialEq, Eq)]
+#[derive(Clone, Copy, Debug, PartialEq, Eq)]
 pub enum Width {
     One = 1,
     Two = 2,
@@ -14,44 +17,62 @@ pub enum Width {
     ThirtyTwo = 32,
 }
 
+// A number of bits that no sample has. No type for both this and UnknownCode: one holds a u32, the other a u8, and their texts differ.
+#[derive(Clone, Copy, Debug, PartialEq, Eq)]
+pub struct UnknownWidth(pub u32);
+
 impl Width {
-    pub fn bits(self) -> u32
-        ensures { result ≡ bits_of self }
-    {
-        self as u32
-    }
-
-    // The width of so many bits, if there is one.
-    pub fn from_bits(bits: u32) -> Option<Width>
-        ensures { result ≡ width_from bits }
-    {
-        match bits {
-            1 => Some(Width::One),
-            2 => Some(Width::Two),
-            4 => Some(Width::Four),
-            8 => Some(Width::Eight),
-            16 => Some(Width::Sixteen),
-            24 => Some(Width::TwentyFour),
-            32 => Some(Width::ThirtyTwo),
-            _ => None,
-        }
-    }
-
     // The largest sample.
     pub fn largest(self) -> u32
         ensures { result ≡ 2 ^ bits_of self - 1 }
     {
-        u32::MAX >> (32 - self.bits())
+        u32::MAX >> (32 - u32::from(self))
     }
 }
+
+impl From<Width> for u32 {
+    ghost from_gives = { λ width bits. bits ≡ bits_of width };
+
+    fn from(width: Width) -> u32 {
+        width as u32
+    }
+}
+
+impl TryFrom<u32> for Width {
+    type Error = UnknownWidth;
+
+    ghost try_from_gives = { WidthOf };
+
+    fn try_from(bits: u32) -> Result<Width, UnknownWidth> {
+        match bits {
+            1 => Ok(Width::One),
+            2 => Ok(Width::Two),
+            4 => Ok(Width::Four),
+            8 => Ok(Width::Eight),
+            16 => Ok(Width::Sixteen),
+            24 => Ok(Width::TwentyFour),
+            32 => Ok(Width::ThirtyTwo),
+            _ => Err(UnknownWidth(bits)),
+        }
+    }
+}
+
+impl fmt::Display for UnknownWidth {
+    ghost output = { λ unknown. Some (unknown_width_text unknown) };
+
+    fn fmt<W: fmt::Write>(&self, f: &mut fmt::Formatter<W>) -> fmt::Result {
+        write!(f, "no sample has {} bits", self.0)
+    }
+}
+
+impl Error for UnknownWidth {}
 
 // A unit's meaning is up to 64 tables, numbered from 0. Where the table or the index is outside, the answer is none.
 pub trait Samples {
     ghost tables: { Self → List Table };
 
     fn width(&self, table: usize) -> Option<Width>
-        ensures value { result ≡ width_in (tables self.now) table }
-        ensures sound { WellFormed (tables self.now) };
+        ensures { result ≡ width_in (tables self.now) table };
 
     // How many samples the table has.
     fn count(&self, table: usize) -> Option<usize>
@@ -59,4 +80,6 @@ pub trait Samples {
 
     fn sample(&self, table: usize, index: usize) -> Option<u32>
         ensures { result ≡ sample_in (tables self.now) table index };
+
+    ghost sound: { (unit : Self) → WellFormed (tables unit) };
 }

@@ -1,10 +1,6 @@
 // The house unit's answers, bit by bit.
+use crate::bits::bits;
 use units::{Arithmetic, House, Question, power, root};
-
-// None for every NaN.
-fn bits(x: f32) -> Option<u32> {
-    if x.is_nan() { None } else { Some(x.to_bits()) }
-}
 
 #[test]
 fn roots_of_no_positive_number(rt: HostRuntime) {

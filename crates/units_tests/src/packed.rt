@@ -1,5 +1,7 @@
 // Samples out of bytes.
 use crate::tables::stretch;
+use fault::{Cause, Fault};
+use std::test::Fail;
 use units::{Packed, Samples, Width};
 
 #[test]
@@ -72,4 +74,15 @@ fn no_tables_where_the_check_fails(rt: HostRuntime) {
     assert!(rt; unit.width(0).is_none());
     assert_eq!(rt; unit.count(0), None);
     assert_eq!(rt; unit.sample(0, 0), None);
+}
+
+#[test]
+fn made_by_one_call(rt: HostRuntime) -> Result<(), Fail> {
+    let bytes = [1, 2];
+    let within = [stretch(8, 0, 2)];
+    let unit = Packed::over(&bytes, &within)?;
+    assert_eq!(rt; unit.sample(0, 1), Some(2));
+    let beyond = [stretch(8, 0, 2), stretch(8, 0, 3)];
+    assert!(rt; Packed::over(&bytes, &beyond).err() == Some(Fault::new(Cause::UnitStretch, 1)));
+    Ok(())
 }

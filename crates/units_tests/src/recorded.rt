@@ -1,13 +1,9 @@
 // Recorded answers: which record answers, and where none does.
+use crate::bits::bits;
 use units::{Answered, Arithmetic, Question, Recorded};
 
 fn record(code: u8, x: f32, y: f32, answer: f32) -> Answered {
     Answered { code, x, y, answer }
-}
-
-// None for every NaN.
-fn bits(x: f32) -> Option<u32> {
-    if x.is_nan() { None } else { Some(x.to_bits()) }
 }
 
 #[test]

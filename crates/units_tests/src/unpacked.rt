@@ -1,5 +1,7 @@
 // Samples out of words.
 use crate::tables::stretch;
+use fault::{Cause, Fault};
+use std::test::Fail;
 use units::{Samples, Unpacked, Width};
 
 #[test]
@@ -47,4 +49,20 @@ fn no_tables_where_the_check_fails(rt: HostRuntime) {
     let unit = Unpacked::new(&words, &directory);
     assert!(rt; unit.width(0).is_none());
     assert_eq!(rt; unit.sample(0, 0), None);
+}
+
+#[test]
+fn made_by_one_call(rt: HostRuntime) -> Result<(), Fail> {
+    let words = [7, 256];
+    let few_bits = [stretch(4, 0, 1)];
+    let unit = Unpacked::over(&words, &few_bits)?;
+    assert_eq!(rt; unit.sample(0, 0), Some(7));
+    let too_great = Fault {
+        cause: Cause::UnitStretch,
+        index: 0,
+        place: 1,
+    };
+    let directory = [stretch(8, 0, 2)];
+    assert!(rt; Unpacked::over(&words, &directory).err() == Some(too_great));
+    Ok(())
 }

@@ -1,13 +1,17 @@
-use Rattle.std.proofs.Common.{◌∙◌}
-use Rattle.units.proofs.Answering.{left_fits, left_passes, left_none}
+use Rattle.std.proofs.Common.{◌≡◌, rules, tests}
+use Rattle.std.proofs.lemmas.Iterator.{YieldsList-from_slice}
+use Rattle.std.proofs.lemmas.Iterator.Search.{find_from_yields_List}
+use Rattle.std.specs.List.{find}
+use Rattle.std.specs.Option.{option_map}
+use Rattle.units.specs.Recorded.{fitting}
+use Rattle.units.proofs.Answering.{recorded_found}
 use Rattle.units.proofs.Nans.{nan_is}
 use Rattle.units.proofs.recorded.first_answer.Goals as goal
 
-pub returns-then-fits : goal.returns-then-fits
-returns-then-fits c = left_fits c.args.question c.args.x c.args.y c.args.items.now c.loop-item.item-index _ c.loop-item-test.true c.if-fits.ensures c.loop-item.invariant
-
-pub loop-item-preserved : goal.loop-item-preserved
-loop-item-preserved c = left_passes c.args.question c.args.x c.args.y c.args.items.now c.loop-item.item-index _ c.loop-item-test.true c.if-fits.ensures c.loop-item.invariant
-
 pub returns : goal.returns
-returns c = nan_is ∙ left_none c.args.question c.args.x c.args.y c.args.items.now c.loop-item.item-index c.loop-item-test.false c.loop-item.invariant
+returns c =
+    let fits = fitting c.args.question c.args.x c.args.y in
+    let found : option_map (λ item. item.now) c.find.result ≡ find fits c.args.items.now =
+    find_from_yields_List fits _ _ c.find.result c.find.ensures.ran (YieldsList-from_slice c.args.items.now (cc)) (λ x b q k. search (rules, tests)) in
+    let answer = recorded_found c.args.question c.args.x c.args.y c.args.items.now in
+    search (rules, nan_is, found, answer)
