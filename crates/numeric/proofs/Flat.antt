@@ -1,6 +1,10 @@
 -- Pairs and the numbers that they lie in. Assumes nothing.
-use Rattle.std.proofs.Common.{◌≡◌, ℕ, ◌-◌, ◌*◌, List, [], ◌∷◌, ◌++◌, length, refl, ap, arith}
-use lib.Ieee.{Float}
+use Rattle.std.proofs.Common.{◌≡◌, ℕ, zero, suc, ◌-◌, ◌*◌, ◌/◌, List, [], ◌∷◌, map, length, get_or, sym, refl, ap, ◌∙◌, subst, arith}
+use Rattle.std.proofs.lemmas.Option.{slice_get-map}
+use Rattle.std.specs.List.{slice_get}
+use Rattle.std.specs.Option.{option_map}
+use Rattle.std.specs.Simd.{first_chunks}
+use lib.Ieee.{Float, nan}
 use Rattle.numeric.specs.Interval.{Interval}
 use Rattle.numeric.specs.Lists.{flat, pairs_of}
 
@@ -12,15 +16,31 @@ pub length_flat : (ps : List Interval) → length (flat ps) ≡ 2 * length ps
 length_flat [] = refl
 length_flat (p ∷ ps) = let e = length_flat ps in omega arith
 
-pub flat_append : (ps qs : List Interval) → flat (ps ++ qs) ≡ flat ps ++ flat qs
-flat_append [] qs = refl
-flat_append (p ∷ ps) qs = ap (λ (xs : List Float). p.0 ∷ p.1 ∷ xs) (flat_append ps qs)
+-- as many pairs as whole chunks of two numbers, and chunk by chunk the same
+pub pairs_count : (xs : List Float) → length (pairs_of xs) ≡ length xs / 2
+pairs_count [] = omega arith
+pairs_count (a ∷ []) = omega arith
+pairs_count (a ∷ b ∷ xs) = let e = pairs_count xs in omega arith
+
+abbrev pub chunk_pair : List Float → Interval
+chunk_pair c = (get_or c 0 nan, get_or c 1 nan)
+
+pairs_chunks : (k : ℕ) (xs : List Float) → length xs / 2 ≡ k → map chunk_pair (first_chunks 2 k xs) ≡ pairs_of xs
+pairs_chunks k [] e = let z : k ≡ 0 = omega arith in subst (λ n. map chunk_pair (first_chunks 2 n []) ≡ []) (sym z) refl
+pairs_chunks k (a ∷ []) e = let z : k ≡ 0 = omega arith in subst (λ n. map chunk_pair (first_chunks 2 n (a ∷ [])) ≡ []) (sym z) refl
+pairs_chunks zero (a ∷ b ∷ xs) e = absurd (omega arith)
+pairs_chunks (suc k) (a ∷ b ∷ xs) e = ap (λ (ps : List Interval). (a, b) ∷ ps) (pairs_chunks k xs (omega arith))
+
+-- a chunk of two that lies at i is the pair i; where none lies, no pair does
+pub pair_of_chunk : (xs : List Float) (cs : List (List Float)) (i : ℕ) → cs ≡ first_chunks 2 (length xs / 2) xs → slice_get (pairs_of xs) i ≡ option_map chunk_pair (slice_get cs i)
+pair_of_chunk xs cs i e =
+    ap (λ (ps : List Interval). slice_get ps i) (sym (pairs_chunks (length xs / 2) xs refl))
+    ∙ ap (λ (ds : List (List Float)). slice_get (map chunk_pair ds) i) (sym e)
+    ∙ slice_get-map chunk_pair cs i
 
 -- 2 * n numbers are n pairs
 pub length_pairs : (xs : List Float) (n : ℕ) → length xs ≡ 2 * n → length (pairs_of xs) ≡ n
-length_pairs [] n e = omega arith
-length_pairs (a ∷ []) n e = absurd (omega arith)
-length_pairs (a ∷ b ∷ xs) n e = let k = length_pairs xs (n - 1) (omega arith) in omega arith
+length_pairs xs n e = omega (arith, pairs_count xs)
 
 -- and those pairs lie in the list as it is
 pub flat_pairs : (xs : List Float) (n : ℕ) → length xs ≡ 2 * n → flat (pairs_of xs) ≡ xs

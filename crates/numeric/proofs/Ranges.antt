@@ -1,10 +1,10 @@
 -- Clamping a list to a list of pairs. Assumes nothing.
-use Rattle.std.proofs.Common.{◌≡◌, ℕ, zero, suc, ◌+◌, ◌*◌, ◌/◌, ◌<◌, ◌≤◌, min, true, List, [], ◌∷◌, ◌++◌, length, get_or, take, drop, set, sym, refl, ap, ◌∙◌, subst, inl, inr, arith}
+use Rattle.std.proofs.Common.{◌≡◌, ℕ, zero, suc, ◌+◌, ◌<◌, ◌≤◌, true, List, [], ◌∷◌, Option, None, Some, ◌++◌, length, get_or, take, drop, set, sym, refl, ap, ◌∙◌, subst, arith}
 use lib.Ieee.{Float, nan}
-use Rattle.std.proofs.lemmas.List.{append_assoc, take-append-drop, take_more_set, drop-set-lt, drop_more, drop_all, length-drop}
-use Rattle.std.proofs.lemmas.Bool.{cases_lt}
+use Rattle.std.proofs.lemmas.List.{append_assoc, take-append-drop, take_more_set, drop-set-lt, drop_more, drop_all}
+use Rattle.std.specs.List.{slice_get}
 use Rattle.numeric.specs.Interval.{Interval, ordered, clamp, within, clamp_all}
-use Rattle.numeric.specs.Lists.{every, pairs_of}
+use Rattle.numeric.specs.Lists.{every}
 use Rattle.numeric.proofs.Every.{every_at}
 use Rattle.numeric.proofs.Inside.{clamp_within}
 
@@ -24,45 +24,41 @@ clamp_all_within ps vs o i p v h k =
     subst (λ (x : Float). within (get_or ps i p) x ≡ true) (sym (get_or_clamp_all ps vs i p v h k))
     (clamp_within (get_or ps i p).0 (get_or ps i p).1 (get_or vs i v) (every_at ordered ps i p o h))
 
--- a loop that clamps `outputs` by the pairs in `range` has come to i: those so far are clamped, and what is left gives the rest
-abbrev pub ClampedTo : List Float → List Float → List Float → ℕ → Type 0
-ClampedTo range outputs new i = clamp_all (pairs_of range) outputs ≡ take i new ++ clamp_all (pairs_of (drop (2 * i) range)) (drop i new)
+-- an output by the pair that it may have
+abbrev pub clamp_by : Option Interval → Float → Float
+clamp_by None v = v
+clamp_by (Some p) v = clamp p v
 
-pub clamped_more : (range outputs new : List Float) (i : ℕ) (r : Float) → 2 * i + 1 < length range → i < length new
-    → r ≡ clamp (get_or range (2 * i) nan, get_or range (2 * i + 1) nan) (get_or new i nan) → ClampedTo range outputs new i → ClampedTo range outputs (set new i r) (i + 1)
-clamped_more range outputs new i r h k e inv =
-    let a = get_or range (2 * i) nan in
-    let b = get_or range (2 * i + 1) nan in
+clamp_all_at : (ps : List Interval) (i : ℕ) (v : Float) (vs : List Float) → clamp_all (drop i ps) (v ∷ vs) ≡ clamp_by (slice_get ps i) v ∷ clamp_all (drop (suc i) ps) vs
+clamp_all_at [] zero v vs = refl
+clamp_all_at [] (suc i) v vs = refl
+clamp_all_at (p ∷ ps) zero v vs = refl
+clamp_all_at (p ∷ ps) (suc i) v vs = clamp_all_at ps i v vs
+
+-- a loop that clamps `outputs` by the pairs has come to i: those so far are clamped, and what is left gives the rest
+abbrev pub ClampedTo : List Interval → List Float → List Float → ℕ → Type 0
+ClampedTo ps outputs new i = clamp_all ps outputs ≡ take i new ++ clamp_all (drop i ps) (drop i new)
+
+pub clamped_more : (ps : List Interval) (outputs new after : List Float) (i : ℕ) → i < length new → after ≡ set new i (clamp_by (slice_get ps i) (get_or new i nan)) → ClampedTo ps outputs new i → ClampedTo ps outputs after (i + 1)
+clamped_more ps outputs new after i h e inv =
     let v = get_or new i nan in
-    let qs = pairs_of (drop (2 * (i + 1)) range) in
-    let next : 2 * i + 1 + 1 ≡ 2 * (i + 1) = omega arith in
-    let p : drop (2 * i) range ≡ a ∷ (b ∷ drop (2 * (i + 1)) range) =
-    drop_more range (2 * i) nan (omega arith) ∙ ap (λ (xs : List Float). a ∷ xs) (drop_more range (2 * i + 1) nan h)
-    ∙ ap (λ (n : ℕ). a ∷ (b ∷ drop n range)) next in
+    let r = clamp_by (slice_get ps i) v in
+    let qs = drop (i + 1) ps in
+    let next : suc i ≡ i + 1 = omega arith in
     inv
-    ∙ ap (λ (xs : List Float). take i new ++ clamp_all (pairs_of xs) (drop i new)) p
-    ∙ ap (λ (vs : List Float). take i new ++ clamp_all ((a, b) ∷ qs) vs) (drop_more new i nan k)
-    ∙ ap (λ (x : Float). take i new ++ (x ∷ clamp_all qs (drop (i + 1) new))) (sym e)
+    ∙ ap (λ (vs : List Float). take i new ++ clamp_all (drop i ps) vs) (drop_more new i nan h)
+    ∙ ap (λ (vs : List Float). take i new ++ vs) (clamp_all_at ps i v (drop (i + 1) new))
+    ∙ ap (λ (n : ℕ). take i new ++ (r ∷ clamp_all (drop n ps) (drop (i + 1) new))) next
     ∙ sym (append_assoc (take i new) (r ∷ []) (clamp_all qs (drop (i + 1) new)))
-    ∙ ap (λ (vs : List Float). vs ++ clamp_all qs (drop (i + 1) new)) (sym (take_more_set new i r k))
+    ∙ ap (λ (vs : List Float). vs ++ clamp_all qs (drop (i + 1) new)) (sym (take_more_set new i r h))
     ∙ ap (λ (vs : List Float). take (i + 1) (set new i r) ++ clamp_all qs vs) (sym (drop-set-lt (i + 1) new i r (omega arith)))
-
-pairs_short : (xs : List Float) → length xs ≤ 1 → pairs_of xs ≡ []
-pairs_short [] h = refl
-pairs_short (a ∷ []) h = refl
-pairs_short (a ∷ b ∷ xs) h = absurd (omega arith)
+    ∙ ap (λ (vs : List Float). take (i + 1) vs ++ clamp_all qs (drop (i + 1) vs)) (sym e)
 
 clamp_all_none : (ps : List Interval) → clamp_all ps [] ≡ []
 clamp_all_none [] = refl
 clamp_all_none (p ∷ ps) = refl
 
-pub clamped_all : (range outputs new : List Float) (i : ℕ) → min (length range / 2) (length new) ≤ i → ClampedTo range outputs new i → new ≡ clamp_all (pairs_of range) outputs
-clamped_all range outputs new i h inv =
-    sym (inv ∙ ap (λ (vs : List Float). take i new ++ vs) rest ∙ take-append-drop i new)
-  where
-    rest : clamp_all (pairs_of (drop (2 * i) range)) (drop i new) ≡ drop i new
-    rest =
-        elim (cases_lt i (length new)) [
-          | inl k ↦ ap (λ (ps : List Interval). clamp_all ps (drop i new)) (pairs_short (drop (2 * i) range) (omega (arith, length-drop (2 * i) range)))
-          | inr k ↦ ap (clamp_all (pairs_of (drop (2 * i) range))) (drop_all i new k) ∙ clamp_all_none (pairs_of (drop (2 * i) range)) ∙ sym (drop_all i new k)
-        ]
+pub clamped_all : (ps : List Interval) (outputs new : List Float) (i : ℕ) → length new ≤ i → ClampedTo ps outputs new i → new ≡ clamp_all ps outputs
+clamped_all ps outputs new i h inv =
+    let none = drop_all i new h in
+    sym (inv ∙ ap (λ (vs : List Float). take i new ++ vs) (ap (clamp_all (drop i ps)) none ∙ clamp_all_none (drop i ps) ∙ sym none) ∙ take-append-drop i new)

@@ -1,10 +1,11 @@
 -- Lists of numbers and of pairs: a test over all, pairs as they lie in a list of numbers, one number after the other, and laying numbers into a longer list. Assumes nothing.
 use Rattle.std.specs.Prelude.{◌≡◌, ℕ, ◌+◌, ◌-◌, Bool, true, cond, ◌&&◌, List, [], ◌∷◌, ◌++◌, length, take, drop, nat_le, Float}
+use Rattle.std.specs.List.{list_all}
+use Rattle.std.specs.Fn.{Shared, AnyResult}
 use Rattle.numeric.specs.Interval.{Interval}
 
 abbrev pub every : {A : Type 0} → (A → Bool) → List A → Bool
-every t [] = true
-every t (x ∷ xs) = t x && every t xs
+every t xs = list_all t xs
 
 -- the numbers of the pairs, in order
 abbrev pub flat : List Interval → List Float
@@ -38,3 +39,7 @@ pub record Lays {A : Type 0} (list : List A) (at : ℕ) (xs new : List A) (r : �
   pub end : r ≡ behind list at xs
   pub after : new ≡ laid list at xs
   pub whole : fits list at xs ≡ true → (r ≡ at + length xs) × (new ≡ written list at xs)
+
+-- whatever f may make of an x is g x
+abbrev pub Makes : {F T P : Type 0} → Shared F (T × Unit {0}) P → F → (T → P) → Type 0
+Makes {F} {T} m f g = (x : T) → AnyResult m f (x, tt) (λ p. p ≡ g x)

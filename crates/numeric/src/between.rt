@@ -1,36 +1,39 @@
-// Clamping to pairs that are given as numbers, and interpolation from one pair to another.
+// Clamping to pairs of numbers, and interpolation from one pair to another.
 ghost use Rattle.std.specs.Prelude.{◌≡◌, true};
 ghost use Rattle.numeric.specs.Interval.{ordered, within, clamp_all};
 ghost use Rattle.numeric.specs.Interval.{clamp, interpolate};
 ghost use Rattle.numeric.specs.Lists.{pairs_of};
 
+use crate::lists::pair_at;
 use crate::pair::Pair;
 
-// Clamps v by the pair of the two numbers; two numbers that make no pair clamp nothing.
-pub fn clamp(low: f32, high: f32, v: f32) -> f32
-    ensures value { result ≡ clamp (low, high) v }
-    ensures inside { ordered (low, high) ≡ true → within (low, high) result ≡ true }
+// Clamps v by the pair; two numbers that make no Pair clamp nothing.
+pub fn clamp(pair: (f32, f32), v: f32) -> f32
+    ensures value { result ≡ clamp pair v }
+    ensures inside { ordered pair ≡ true → within pair result ≡ true }
 {
-    match Pair::new(low, high) {
-        Some(pair) => pair.clamp(v),
-        None => v,
-    }
+    let (low, high) = pair;
+    Pair::new(low, high).map_or(v, |pair| pair.clamp(v))
 }
 
 // Clamps each output by its Range pair; `range` holds the pairs, number after number.
 pub fn clamp_output(range: &[f32], outputs: &mut [f32])
     ensures { outputs.new ≡ clamp_all (pairs_of range.now) outputs.old }
 {
-    let count = (range.len() / 2).min(outputs.len());
-    for i in 0..count {
-        outputs[i] = clamp(range[2 * i], range[2 * i + 1], outputs[i]);
+    // The pairs by index: what is written through a zipped iter_mut is lost to the proof.
+    for (i, output) in outputs.iter_mut().enumerate() {
+        if let Some(pair) = pair_at(range, i) {
+            *output = clamp(pair, *output);
+        }
     }
 }
 
-// Carries x from (x_min, x_max) over to (y_min, y_max). Each operation rounds once, also where
-// x_min equals x_max.
-pub fn interpolate(x: f32, x_min: f32, x_max: f32, y_min: f32, y_max: f32) -> f32
-    ensures { result ≡ interpolate x (x_min, x_max) (y_min, y_max) }
+// Carries x from one pair over to the other. Each operation rounds once, also where the numbers of
+// the first pair are equal.
+pub fn interpolate(x: f32, from: (f32, f32), to: (f32, f32)) -> f32
+    ensures { result ≡ interpolate x from to }
 {
+    let (x_min, x_max) = from;
+    let (y_min, y_max) = to;
     y_min + (((x - x_min) * (y_max - y_min)) / (x_max - x_min))
 }

@@ -4,10 +4,12 @@
 
 mod between;
 mod lists;
+mod numbers;
 mod pair;
 mod whole;
 
 pub use between::{clamp, clamp_output, interpolate};
-pub use lists::{all_finite, pairs_finite, pairs_rise, put, put_pairs};
+pub use lists::{all_finite, pair_at, pair_count, pairs_rise, put, put_each};
+pub use numbers::Numbers;
 pub use pair::Pair;
-pub use whole::{cut_i32, cut_u8, cut_u32, nearest_i32, nearest_u32};
+pub use whole::Whole;

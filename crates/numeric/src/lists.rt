@@ -1,74 +1,74 @@
 // Lists of numbers and of pairs: tests over all of them, and laying them into a longer list.
-ghost use Rattle.std.specs.Prelude.{◌≡◌};
-ghost use Rattle.std.specs.Float.{float_is_finite};
-ghost use Rattle.numeric.specs.Interval.{both_finite, rises};
-ghost use Rattle.numeric.specs.Lists.{every, flat, Lays};
+ghost use Rattle.std.specs.Prelude.{◌≡◌, ◌-◌, ◌*◌, ◌&&◌, nat_le, length};
+ghost use Rattle.std.specs.List.{flat_map, slice_get};
+ghost use Rattle.numeric.specs.Interval.{rises};
+ghost use Rattle.numeric.specs.Lists.{every, pairs_of, Lays, Makes};
 
-pub fn all_finite(xs: &[f32]) -> bool
-    ensures { result ≡ every float_is_finite xs.now }
-{
-    for x in xs {
-        if !x.is_finite() {
-            return false;
-        }
-    }
-    true
-}
+use crate::numbers::Numbers;
 
-fn both_finite(p: (f32, f32)) -> bool
-    ensures { result ≡ both_finite p }
+pub fn all_finite<P: Numbers>(items: &[P]) -> bool
+    ensures { result ≡ every P.finite items.now }
 {
-    p.0.is_finite() && p.1.is_finite()
-}
-
-pub fn pairs_finite(ps: &[(f32, f32)]) -> bool
-    ensures { result ≡ every both_finite ps.now }
-{
-    for p in ps {
-        if !both_finite(*p) {
-            return false;
-        }
-    }
-    true
+    items.iter().all(|item| item.is_finite())
 }
 
 // Whether the first number of each pair is at most the second; a NaN is not.
 pub fn pairs_rise(ps: &[(f32, f32)]) -> bool
     ensures { result ≡ every rises ps.now }
 {
-    for p in ps {
-        if !(p.0 <= p.1) {
-            return false;
-        }
-    }
-    true
+    ps.iter().all(|p| p.0 <= p.1)
 }
 
-// Writes xs into the list from `at` on, and says which place lies behind them. Where they do not
-// fit, nothing is written and the place is `at`.
-pub fn put(list: &mut [f32], at: usize, xs: &[f32]) -> usize
-    ensures { Lays list.old at xs.now list.new result }
+// How many pairs lie in a list, number after number; a last number without a second is none.
+pub fn pair_count(list: &[f32]) -> usize
+    ensures { result ≡ length (pairs_of list.now) }
 {
-    if at > list.len() || xs.len() > list.len() - at {
-        return at;
-    }
-    let end = at + xs.len();
-    list[at..end].copy_from_slice(xs);
-    end
+    list.len() / 2
 }
 
-// The same for pairs, number after number.
-pub fn put_pairs(list: &mut [f32], at: usize, ps: &[(f32, f32)]) -> usize
-    ensures { Lays list.old at (flat ps.now) list.new result }
+// The pair i of them.
+pub fn pair_at(list: &[f32], i: usize) -> Option<(f32, f32)>
+    ensures { result ≡ slice_get (pairs_of list.now) i }
 {
-    if at > list.len() || ps.len() > (list.len() - at) / 2 {
+    let (pairs, _) = list.as_chunks::<2>();
+    let [first, second] = pairs.get(i)?;
+    Some((*first, *second))
+}
+
+// Writes the numbers of what is made of each item into the list from `at` on, and says which place
+// lies behind them. Where they do not all fit, nothing is written and the place is `at`: the
+// contract fixes that answer, and no caller has a refusal to pass on.
+pub fn put_each<T: Copy, P: Numbers, F: Fn(T) -> P>(
+    list: &mut [f32],
+    at: usize,
+    items: &[T],
+    make: F,
+) -> usize
+    requires { F.IsAlwaysCallable make }
+    ensures { (g : T → P) → Makes F.Fn make g → Lays list.old at (flat_map (λ x. P.numbers (g x)) items.now) list.new result }
+{
+    if !has_room(list.len(), at, items.len(), P::COUNT) {
         return at;
     }
     let mut end = at;
-    for p in ps {
-        list[end] = p.0;
-        list[end + 1] = p.1;
-        end += 2;
+    for item in items {
+        end = make(*item).put_at(list, end);
     }
     end
+}
+
+// Whether a list of this length holds the numbers of all items from `at` on, so many for each.
+pub(crate) fn has_room(len: usize, at: usize, items: usize, each: usize) -> bool
+    ensures { result ≡ (nat_le at len && nat_le (items * each) (len - at)) }
+{
+    items
+        .checked_mul(each)
+        .is_some_and(|count| at <= len && count <= len - at)
+}
+
+// Writes the numbers of each item into the list, as put_each does.
+pub fn put<P: Numbers>(list: &mut [f32], at: usize, items: &[P]) -> usize
+    ensures { Lays list.old at (flat_map P.numbers items.now) list.new result }
+{
+    put_each(list, at, items, |item| item)
 }

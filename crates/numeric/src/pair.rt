@@ -1,8 +1,9 @@
-// A Domain or Range pair: two finite numbers, the first at most the second.
-ghost use Rattle.std.specs.Prelude.{◌≡◌, true, false, Some, None};
+// A Domain or Range pair: two finite numbers, the first at most the second. A ghost field says so and
+// no Model, which would have PartialEq written by hand.
+ghost use Rattle.std.specs.Prelude.{◌≡◌, true, is_some, IfSome};
 ghost use Rattle.numeric.specs.Interval.{ordered, clamp, within};
 
-#[derive(Clone, Copy)]
+#[derive(Clone, Copy, Debug, PartialEq)]
 pub struct Pair {
     low: f32,
     high: f32,
@@ -12,7 +13,8 @@ pub struct Pair {
 impl Pair {
     // The pair of two finite numbers in order; no others make one.
     pub fn new(low: f32, high: f32) -> Option<Pair>
-        ensures { elim result [ Some p ↦ (p.low ≡ low) × (p.high ≡ high) × (ordered (low, high) ≡ true) | None ↦ ordered (low, high) ≡ false ] }
+        ensures numbers { IfSome result (λ p. (p.low ≡ low) × (p.high ≡ high)) }
+        ensures made { is_some result ≡ ordered (low, high) }
     {
         if low.is_finite() && high.is_finite() && low <= high {
             Some(Pair { low, high })
@@ -40,6 +42,7 @@ impl Pair {
         ensures inside { within (self.low, self.high) result ≡ true }
     {
         let Pair { low, high, .. } = self;
+        // No min and max: they leave the sign of a zero open.
         let capped = if v.is_nan() || v > high { high } else { v };
         if capped < low { low } else { capped }
     }

@@ -1,36 +1,61 @@
 // Between floats and integers. Cutting drops the fraction, a NaN gives 0, and what lies beyond the
 // width gives its nearest end. An integer becomes the nearest f32, ties to even.
-ghost use Rattle.std.specs.Prelude.{◌≡◌, pos};
+ghost use Rattle.std.specs.Prelude.{◌≡◌, Float, pos};
 ghost use Rattle.numeric.specs.Whole.{cut_unsigned, cut_signed, nearest_to};
 
 use std::num;
 
-pub fn cut_u8(x: f32) -> u8
-    ensures { result ≡ cut_unsigned 8 x }
-{
-    num::saturating_f32_to_u8(x)
+// An integer of some width.
+pub trait Whole: Copy {
+    ghost cut: { Float → Self };
+
+    ghost nearest: { Self → Float };
+
+    fn cut(x: f32) -> Self
+        ensures { result ≡ cut x };
+
+    fn nearest(self) -> f32
+        ensures { result ≡ nearest self };
 }
 
-pub fn cut_u32(x: f32) -> u32
-    ensures { result ≡ cut_unsigned 32 x }
-{
-    num::saturating_f32_to_u32(x)
+impl Whole for u8 {
+    ghost cut = { cut_unsigned 8 };
+
+    ghost nearest = { λ n. nearest_to (pos n) };
+
+    fn cut(x: f32) -> u8 {
+        num::saturating_f32_to_u8(x)
+    }
+
+    fn nearest(self) -> f32 {
+        f32::from(self)
+    }
 }
 
-pub fn cut_i32(x: f32) -> i32
-    ensures { result ≡ cut_signed 31 x }
-{
-    num::saturating_f32_to_i32(x)
+impl Whole for u32 {
+    ghost cut = { cut_unsigned 32 };
+
+    ghost nearest = { λ n. nearest_to (pos n) };
+
+    fn cut(x: f32) -> u32 {
+        num::saturating_f32_to_u32(x)
+    }
+
+    fn nearest(self) -> f32 {
+        num::nearest_u32_to_f32(self)
+    }
 }
 
-pub fn nearest_u32(n: u32) -> f32
-    ensures { result ≡ nearest_to (pos n) }
-{
-    num::nearest_u32_to_f32(n)
-}
+impl Whole for i32 {
+    ghost cut = { cut_signed 31 };
 
-pub fn nearest_i32(n: i32) -> f32
-    ensures { result ≡ nearest_to n }
-{
-    num::nearest_i32_to_f32(n)
+    ghost nearest = { nearest_to };
+
+    fn cut(x: f32) -> i32 {
+        num::saturating_f32_to_i32(x)
+    }
+
+    fn nearest(self) -> f32 {
+        num::nearest_i32_to_f32(self)
+    }
 }
