@@ -1,5 +1,6 @@
 -- Laws of a list that is laid over the front of another. Assumes nothing.
-use Rattle.std.proofs.Common.{◌≡◌, ℕ, zero, suc, ◌+◌, ◌<◌, ◌≤◌, min, List, [], ◌∷◌, ◌++◌, length, get_or, take, drop, set, refl, ap, add-one, arith}
+use Rattle.std.proofs.Common.{◌≡◌, ℕ, zero, suc, ◌+◌, ◌<◌, ◌≤◌, min, List, [], ◌∷◌, ◌++◌, length, get_or, take, drop, set, refl, ap, add-one, arith, ◌∙◌, ◌⊎◌, sym, inl, inr}
+use Rattle.std.proofs.lemmas.List.{append_assoc, take-append-drop, take_more_set, drop-set-lt, drop_more, length-drop}
 use Rattle.function.specs.Outputs.{over}
 
 module _ {A : Type 0} where
@@ -35,3 +36,24 @@ module _ {A : Type 0} where
   over_length [] old = refl
   over_length (x ∷ xs) [] = refl
   over_length (x ∷ xs) (y ∷ ys) = ap suc (over_length xs ys)
+
+  -- a loop that writes at i: `now` is done up to there, and `rest` is still to be laid over what follows
+  abbrev pub Left : List A → List A → ℕ → List A → Type 0
+  Left done now i rest = done ≡ take i now ++ over rest (drop i now)
+
+  pub left_more : (done now : List A) (i : ℕ) (x : A) (rest : List A) → i < length now → Left done now i (x ∷ rest) → Left done (set now i x) (i + 1) rest
+  left_more done now i x rest h l =
+      l
+      ∙ ap (λ (ys : List A). take i now ++ over (x ∷ rest) ys) (drop_more now i x h)
+      ∙ sym (append_assoc (take i now) (x ∷ []) (over rest (drop (i + 1) now)))
+      ∙ rw (take_more_set now i x h, drop-set-lt (i + 1) now i x (omega arith)) refl
+
+  -- nothing is left to be written, or no place to write it to
+  pub left_all : (done now : List A) (i : ℕ) (rest : List A) → (length rest ≡ 0) ⊎ (length now ≤ i) → Left done now i rest → now ≡ done
+  left_all done now i rest e l = sym (l ∙ ap (λ (xs : List A). take i now ++ xs) (over_none rest (drop i now) (elim e [ inl none ↦ inl none | inr end ↦ inr (omega (arith, length-drop i now)) ])) ∙ take-append-drop i now)
+    where
+      over_none : (rest old : List A) → (length rest ≡ 0) ⊎ (length old ≡ 0) → over rest old ≡ old
+      over_none [] old e = refl
+      over_none (x ∷ xs) [] e = refl
+      over_none (x ∷ xs) (y ∷ ys) (inl e) = absurd (omega arith)
+      over_none (x ∷ xs) (y ∷ ys) (inr e) = absurd (omega arith)

@@ -13,14 +13,16 @@ ghost use Rattle.function.specs.Outputs.{over};
 use crate::clamper::{clamp_first, clamp_front};
 use crate::counts::Counts;
 use fault::{Cause, Fault, demand};
-use numeric::{all_finite, pairs_finite, pairs_rise};
+use numeric::{all_finite, pairs_rise};
 use units::{Arithmetic, Question};
 
 // The most coefficients of an exponential function.
 pub const MAX_OUTPUTS: usize = 32;
 
 // What a caller gives of an exponential function: no Range pairs where it has no Range, C0 and C1 where they are not 0 and 1.
-#[derive(Clone, Copy)]
+// Lists of their own, as in a file, where C0 may be longer than C1: check refuses that. Domain and Range are fields of each
+// kind, as in a file's dictionary: a struct of the two is no plainer for callers.
+#[derive(Clone, Copy, Debug, PartialEq)]
 pub struct Exponential<'c> {
     pub domain: &'c [(f32, f32)],
     pub range: &'c [(f32, f32)],
@@ -30,24 +32,18 @@ pub struct Exponential<'c> {
 }
 
 impl<'c> Exponential<'c> {
-    // C0, or 0 where it is absent.
+    // C0, or 0 where it is absent. Not one function with c1_numbers: the default would be one more argument of each call.
     pub fn c0_numbers(&self) -> &'c [f32]
         ensures { result.now ≡ c0_of self.now }
     {
-        match self.c0 {
-            Some(c0) => c0,
-            None => &[0.0],
-        }
+        self.c0.unwrap_or(&[0.0])
     }
 
     // C1, or 1 where it is absent.
     pub fn c1_numbers(&self) -> &'c [f32]
         ensures { result.now ≡ c1_of self.now }
     {
-        match self.c1 {
-            Some(c1) => c1,
-            None => &[1.0],
-        }
+        self.c1.unwrap_or(&[1.0])
     }
 
     // One Domain pair, and every other count within its limits.
@@ -56,24 +52,18 @@ impl<'c> Exponential<'c> {
     {
         self.domain.len() == 1
             && self.range.len() <= MAX_OUTPUTS
-            && is_count(self.c0_numbers().len())
-            && is_count(self.c1_numbers().len())
+            && (1..=MAX_OUTPUTS).contains(&self.c0_numbers().len())
+            && (1..=MAX_OUTPUTS).contains(&self.c1_numbers().len())
     }
 
     fn all_finite(&self) -> bool
         ensures { result ≡ all_finite self.now.domain.now self.now.range.now (c0_of self.now) (c1_of self.now) self.now.n }
     {
-        pairs_finite(self.domain)
-            && pairs_finite(self.range)
+        all_finite(self.domain)
+            && all_finite(self.range)
             && all_finite(self.c0_numbers())
             && all_finite(self.c1_numbers())
             && self.n.is_finite()
-    }
-
-    fn all_rise(&self) -> bool
-        ensures { result ≡ (every rises self.now.domain.now && every rises self.now.range.now) }
-    {
-        pairs_rise(self.domain) && pairs_rise(self.range)
     }
 
     // As many numbers in C0 as in C1, and as many Range pairs or none.
@@ -89,9 +79,11 @@ impl<'c> Exponential<'c> {
     pub fn check(&self, index: usize) -> Result<usize, Fault>
         ensures { result ≡ judged (first_fault (given_checks index self.now)) (length (numbers_of (exponential_of self.now))) }
     {
+        // Each kind begins with these four: a function for all would take four flags in a row, or a trait with as many methods.
         demand(self.counts_fit(), Fault::new(Cause::Count, index))?;
         demand(self.all_finite(), Fault::new(Cause::NotFinite, index))?;
-        demand(self.all_rise(), Fault::new(Cause::UpsideDown, index))?;
+        let rise = pairs_rise(self.domain) && pairs_rise(self.range);
+        demand(rise, Fault::new(Cause::UpsideDown, index))?;
         demand(
             self.counts_agree(),
             Fault::new(Cause::CountsDisagree, index),
@@ -101,15 +93,9 @@ impl<'c> Exponential<'c> {
     }
 }
 
-// Whether n lies from 1 to the most coefficients.
-fn is_count(n: usize) -> bool
-    ensures { result ≡ from_one_to most_outputs n }
-{
-    0 < n && n <= MAX_OUTPUTS
-}
-
-// A loaded exponential function: its parts of the number list.
-#[derive(Clone, Copy)]
+// A loaded exponential function: its parts of the number list. Pairs lie in them number after number, since a set has one
+// list of numbers.
+#[derive(Clone, Copy, Debug, PartialEq)]
 pub struct Type2<'a> {
     pub domain: &'a [f32],
     pub range: &'a [f32],
@@ -154,8 +140,8 @@ fn factor_of<A: Arithmetic>(unit: &mut A, n: f32, x: f32) -> f32
 fn mix(factor: f32, c0: &[f32], c1: &[f32], outputs: &mut [f32])
     ensures { outputs.new ≡ over (mixed factor c0.now c1.now) outputs.old }
 {
-    let count = c0.len().min(c1.len()).min(outputs.len());
-    for i in 0..count {
-        outputs[i] = c0[i] + factor * (c1[i] - c0[i]);
+    // By index: what is written through a zipped iter_mut is lost to the proof, and `get` of both lists reads no plainer.
+    for (i, (a, b)) in c0.iter().zip(c1).enumerate().take(outputs.len()) {
+        outputs[i] = *a + factor * (*b - *a);
     }
 }

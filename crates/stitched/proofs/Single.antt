@@ -1,7 +1,10 @@
 -- An input of the Domain belongs to one part, and that is the one which is chosen. Assumes nothing.
 use Rattle.std.proofs.Common.{◌≡◌, ℕ, suc, ◌-◌, ◌<◌, ◌≤◌, Bool, true, false, ◌&&◌, T, eqb, leb, ◌⊎◌, List, [], ◌∷◌, length, get_or, sym, ap, ◌∙◌, subst, inl, inr, arith}
 use lib.Ieee.{Float, nan, binary32, add, sub, lt, le, eq, fits, is_nan}
+use lib.Ieee.Bits.{is_true}
 use Rattle.std.specs.Float.{float_is_finite}
+use Rattle.std.proofs.lemmas.Float.{T_from_true}
+use Rattle.std.proofs.lemmas.Float as order
 use Rattle.std.proofs.lemmas.Bool.{cases_Bool, cases_lt, cases_order, and_parts, and_from, and_left, and_right, le-leb, lt-leb, eq-eqb, ne_eqb, cond-true, cond-false, false≢true}
 use Rattle.numeric.specs.Interval.{Interval, ordered, within, clamp_all}
 use Rattle.numeric.proofs.Comparing.{le_trans, le_not_lt, eq_le, lt_from, le_numbers}
@@ -13,12 +16,8 @@ use Rattle.stitched.proofs.Rising.{bound_high, bound_bound}
 use Rattle.stitched.proofs.Widening.{below_itself, above_itself}
 
 -- x < y ≤ z
-lt_le : (x y z : Float) → is_nan x ≡ false → lt x y ≡ true → le y z ≡ true → lt x z ≡ true
-lt_le x y z n h k =
-    elim (cases_Bool (lt x z)) [
-      | inl t ↦ t
-      | inr t ↦ absurd (false≢true (sym (le_not_lt x y (le_trans y z x k (le_of_not_lt x z n (le_numbers y z k).1 t))) ∙ h))
-    ]
+lt_le : (x y z : Float) → lt x y ≡ true → le y z ≡ true → lt x z ≡ true
+lt_le x y z h k = is_true (lt x z) (order.lt_of_lt_of_le x y z (T_from_true (lt x y) h) (T_from_true (le y z) k))
 
 module _ (domain : Interval) (bounds : List Float) (x : Float) (low_fits : T (fits binary32 domain.0)) (high_fits : T (fits binary32 domain.1))
     (tidy : ordered domain ≡ true) (rise : bounds_rise domain.0 domain.1 bounds ≡ true) (in-domain : within domain x ≡ true) where
@@ -75,7 +74,7 @@ module _ (domain : Interval) (bounds : List Float) (x : Float) (low_fits : T (fi
             subst (λ (y : Float). lt x y ≡ true) (ap (λ (n : ℕ). get_or bounds n nan) (sym s) ∙ full_inner domain bounds (suc k) (omega arith) (omega arith)) (pick_stops bounds x h)
         | inr h ↦
             subst (λ (y : Float). lt x y ≡ true) (sym (full_last domain bounds (suc k) (omega arith)))
-            (lt_le x b (add binary32 b hair) number (lt_from x b to_high e) (above_itself b ends_finite.1 high_fits))
+            (lt_le x b (add binary32 b hair) (lt_from x b to_high e) (above_itself b ends_finite.1 high_fits))
       ]
 
   -- and no other does
@@ -89,7 +88,7 @@ module _ (domain : Interval) (bounds : List Float) (x : Float) (low_fits : T (fi
   not_behind i h l =
       let j = i - 1 in
       let past : lt x (get_or bounds j nan) ≡ true =
-      lt_le x (get_or bounds k nan) (get_or bounds j nan) number (pick_stops bounds x (omega arith)) (bound_bound a b bounds k j rise (omega arith) (omega arith)) in
+      lt_le x (get_or bounds k nan) (get_or bounds j nan) (pick_stops bounds x (omega arith)) (bound_bound a b bounds k j rise (omega arith) (omega arith)) in
       subst (λ (y : Float). le y x ≡ false) (full_inner domain bounds i (omega arith) l)
       (elim (cases_Bool (le (get_or bounds j nan) x)) [
         | inl t ↦ absurd (false≢true (sym (le_not_lt x (get_or bounds j nan) t) ∙ past))

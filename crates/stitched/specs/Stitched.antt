@@ -5,17 +5,15 @@ use Rattle.std.specs.Float.{float_is_finite, nan, binary32}
 use Rattle.fault.specs.Checks.{Check, check, fault}
 use Rattle.fault.specs.declared.cause.Cause.TheVariants.{Count, NotFinite, UpsideDown, CountsDisagree, Part, Bounds, Depth}
 use Rattle.numeric.specs.Interval.{Interval, both_finite, rises, ordered, within, interpolate, clamp_all}
-use Rattle.numeric.specs.Lists.{every, flat}
+use Rattle.numeric.specs.Lists.{every, flat, pairs_of}
 use Rattle.numeric.specs.Whole.{cut_unsigned, nearest_to}
 use Rattle.function.specs.Answer.{first}
 use Rattle.function.specs.Limits.{from_one_to, full_list, most_parts, most_depth}
+use Rattle.stitched.specs.declared.earlier.Known.{Known}
 use Rattle.stitched.specs.declared.type3.Chosen.{Chosen}
 use Rattle.stitched.specs.declared.type3.Needs.{Needs}
-
--- what a stitched function must know of an earlier one: how many inputs it takes, and how deep it is
-pub record Known : Type 0 where
-  pub inputs : ℕ
-  pub depth : ℕ
+use Rattle.stitched.specs.declared.type3.Stitched.{Stitched}
+use Rattle.stitched.specs.declared.type3.Type3.{Type3}
 
 -- 0.0001
 abbrev pub hair : Float
@@ -35,9 +33,12 @@ no_earlier = record { inputs = 0; depth = 0 }
 abbrev pub is_part : List Known → ℕ → Bool
 is_part earlier p = nat_lt p (length earlier) && (get_or earlier p no_earlier).inputs == 1
 
+abbrev pub depth_of : List Known → ℕ → ℕ
+depth_of earlier p = (get_or earlier p no_earlier).depth
+
 abbrev pub deepest : List Known → List ℕ → ℕ
 deepest earlier [] = 0
-deepest earlier (p ∷ ps) = max (get_or earlier p no_earlier).depth (deepest earlier ps)
+deepest earlier (p ∷ ps) = max (depth_of earlier p) (deepest earlier ps)
 
 abbrev pub first_pair : List Interval → Interval
 first_pair pairs = slice_index_or pairs 0 (nan, nan)
@@ -64,6 +65,9 @@ stitched_checks earlier domain range parts bounds encode =
     ∷ check (nat_lt (deepest earlier parts) most_depth) (fault Depth index)
     ∷ []
 
+abbrev pub given_checks : List Known → Stitched → List Check
+given_checks earlier s = stitched_checks earlier s.domain.now s.range.now s.parts.now s.bounds.now s.encode.now
+
 -- ---- what is stored
 
 -- an index as it lies in the number list
@@ -80,6 +84,12 @@ needs_of earlier domain range parts bounds encode = record {
   numbers = length (flat domain ++ (flat range ++ own_numbers parts bounds encode));
   depth = suc (deepest earlier parts);
 }
+
+abbrev pub given_needs : List Known → Stitched → Needs
+given_needs earlier s = needs_of earlier s.domain.now s.range.now s.parts.now s.bounds.now s.encode.now
+
+abbrev pub given_numbers : Stitched → List Float
+given_numbers s = own_numbers s.parts.now s.bounds.now s.encode.now
 
 -- ---- which part an input goes to
 
@@ -110,6 +120,10 @@ choice domain parts bounds encode inputs =
     let x = first (clamp_all domain inputs) in
     let i = pick bounds x in
     record { stretch = i; part = cut_unsigned 32 (slice_index_or parts i nan); input = part_input (first_pair domain) bounds encode x i }
+
+-- the same for a loaded one, by its parts of the number list
+abbrev pub stored_choice : Type3 → List Float → Chosen
+stored_choice t inputs = choice (pairs_of t.domain.now) t.parts.now t.bounds.now (pairs_of t.encode.now) inputs
 
 -- The rule that `pick` comes to: the Domain's second number belongs to the last part, any other input of the Domain to the part whose
 -- stretch holds it, the upper bound left out.

@@ -4,5 +4,5 @@
 mod earlier;
 mod type3;
 
-pub use earlier::Earlier;
+pub use earlier::{Earlier, Known};
 pub use type3::{Chosen, Needs, Stitched, Type3, find_interval};

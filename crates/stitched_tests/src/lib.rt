@@ -7,10 +7,31 @@ mod loaded;
 mod tests {
     use crate::loaded::Loaded;
     use fault::{Cause, Fault};
-    use stitched::{Chosen, Needs, Stitched, Type3, find_interval};
+    use stitched::{Chosen, Known, Needs, Stitched, Type3, find_interval};
 
     // Three functions of one input, the last seven deep, one of two inputs, and one eight deep.
-    const FUNCTIONS: [(usize, usize); 5] = [(1, 1), (1, 2), (1, 7), (2, 1), (1, 8)];
+    const FUNCTIONS: [Known; 5] = [
+        Known {
+            inputs: 1,
+            depth: 1,
+        },
+        Known {
+            inputs: 1,
+            depth: 2,
+        },
+        Known {
+            inputs: 1,
+            depth: 7,
+        },
+        Known {
+            inputs: 2,
+            depth: 1,
+        },
+        Known {
+            inputs: 1,
+            depth: 8,
+        },
+    ];
 
     const UNIT: [(f32, f32); 1] = [(0.0, 1.0)];
 
@@ -33,17 +54,11 @@ mod tests {
     }
 
     fn is_refused(given: &Stitched, cause: Cause) -> bool {
-        match answer(given) {
-            Ok(_) => false,
-            Err(fault) => fault == Fault::new(cause, 5),
-        }
+        answer(given) == Err(Fault::new(cause, 5))
     }
 
     fn needs(given: &Stitched, numbers: usize, depth: usize) -> bool {
-        match answer(given) {
-            Ok(needs) => needs.numbers == numbers && needs.depth == depth,
-            Err(_) => false,
-        }
+        answer(given) == Ok(Needs { numbers, depth })
     }
 
     #[test]
@@ -144,11 +159,7 @@ mod tests {
         let given = two_parts(&[200, 255], &[0.5]);
         let mut numbers = [9.0f32; 9];
         assert!(rt; given.lay(&mut numbers, 1) == 8);
-        assert!(rt; numbers[0] == 9.0 && numbers[8] == 9.0);
-        assert!(rt; numbers[1] == 200.0 && numbers[2] == 255.0);
-        assert!(rt; numbers[3] == 0.5);
-        assert!(rt; numbers[4] == 0.0 && numbers[5] == 1.0);
-        assert!(rt; numbers[6] == 1.0 && numbers[7] == 0.0);
+        assert_eq!(rt; numbers, [9.0, 200.0, 255.0, 0.5, 0.0, 1.0, 1.0, 0.0, 9.0]);
     }
 
     #[test]
@@ -157,9 +168,9 @@ mod tests {
         let mut numbers = [9.0f32; 7];
         assert!(rt; given.lay(&mut numbers, 1) == 1);
         assert!(rt; given.lay(&mut numbers, 8) == 8);
-        assert!(rt; numbers[1] == 9.0 && numbers[6] == 9.0);
+        assert_eq!(rt; numbers, [9.0; 7]);
         assert!(rt; given.lay(&mut numbers, 0) == 7);
-        assert!(rt; numbers[0] == 200.0 && numbers[6] == 0.0);
+        assert_eq!(rt; numbers, [200.0, 255.0, 0.5, 0.0, 1.0, 1.0, 0.0]);
     }
 
     #[test]
@@ -173,8 +184,12 @@ mod tests {
     }
 
     fn is_chosen(function: &Type3, input: f32, stretch: usize, part: usize, value: f32) -> bool {
-        let chosen: Chosen = function.choose(&[input]);
-        chosen.stretch == stretch && chosen.part == part && chosen.input == value
+        let expected = Chosen {
+            stretch,
+            part,
+            input: value,
+        };
+        function.choose(&[input]) == expected
     }
 
     // Encode pairs without a width, so that the input for the part tells them apart.

@@ -1,11 +1,13 @@
-use Rattle.std.proofs.Common.{ℕ, max, ap, ◌∙◌}
-use Rattle.stitched.proofs.Nesting.{deep_more, deep_all}
+use Rattle.std.proofs.Common.{rules}
+use Rattle.std.proofs.lemmas.Iterator.{YieldsList-from_slice, YieldsList-from_map}
+use Rattle.std.proofs.lemmas.Iterator.Adapters.{option_map_id}
+use Rattle.std.proofs.lemmas.Iterator.Consumers.{max_from_yields_List}
+use Rattle.stitched.specs.Stitched.{depth_of}
+use Rattle.stitched.proofs.Nesting.{reduce_deepest}
 use Rattle.stitched.proofs.earlier.deepest.Goals as goal
 
-pub loop-part-preserved : goal.loop-part-preserved
-loop-part-preserved g c =
-    deep_more (g.E.Earlier.known c.args.earlier.now) c.args.parts.now c.loop-part.part-index c.loop-part.depth _ c.loop-part-test.true
-    (c.max-depth.ensures ∙ ap (λ (n : ℕ). max c.loop-part.depth n) c.depth.ensures) c.loop-part.invariant
-
 pub returns : goal.returns
-returns g c = deep_all (g.E.Earlier.known c.args.earlier.now) c.args.parts.now c.loop-part.part-index c.loop-part.depth c.loop-part-test.false c.loop-part.invariant
+returns g c =
+    let depths = depth_of (g.E.Earlier.known c.args.earlier.now) in
+    let largest = max_from_yields_List c.map.result c.max.result c.max.ensures.ran (YieldsList-from_map _ depths (YieldsList-from_slice c.args.parts.now cc) c.map.ensures.closure (λ x r q k. search rules)) in
+    rw (c.unwrap_or.ensures, ← option_map_id c.max.result, largest, reduce_deepest)

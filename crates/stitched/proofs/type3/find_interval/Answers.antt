@@ -1,18 +1,16 @@
-use Rattle.std.proofs.Common.{◌≡◌, length, ◌∙◌, arith}
-use Rattle.stitched.proofs.Choosing.{pick_here, pick_more, pick_all}
+use Rattle.std.proofs.Common.{◌≡◌, rules, tests}
+use lib.Ieee.{lt}
+use Rattle.std.proofs.lemmas.Iterator.{YieldsList-from_slice}
+use Rattle.std.proofs.lemmas.Iterator.Search.{position_from_yields_List}
+use Rattle.stitched.specs.Stitched.{pick}
+use Rattle.stitched.proofs.Choosing.{pick_found}
 use Rattle.stitched.proofs.Single.{only_part}
 use Rattle.stitched.proofs.type3.find_interval.Goals as goal
 
-pub returns-then-x-bound : goal.returns-then-x-bound
-returns-then-x-bound c =
-    let place = pick_here c.args.bounds.now c.args.x c.loop-i.i c.loop-i-test.true c.if-x-bound.true c.loop-i.invariant in
-    record { place = place; only = only_part c.args.bounds.now c.args.x _ place }
-
-pub loop-i-preserved : goal.loop-i-preserved
-loop-i-preserved c = pick_more c.args.bounds.now c.args.x c.loop-i.i c.loop-i-test.true c.if-x-bound.false c.loop-i.invariant
-
 pub returns : goal.returns
 returns c =
-    let all : length c.args.bounds.now ≡ c.loop-i.i = omega arith in
-    let place = all ∙ pick_all c.args.bounds.now c.args.x c.loop-i.i c.loop-i-test.false c.loop-i.invariant in
-    record { place = place; only = only_part c.args.bounds.now c.args.x _ place }
+    let bounds = c.args.bounds.now in
+    let x = c.args.x in
+    let found = position_from_yields_List (λ b. lt x b) _ _ c.position.result c.position.ensures.ran (YieldsList-from_slice bounds cc) (λ b t q k. search (rules, tests)) in
+    let place : c.unwrap_or.result ≡ pick bounds x = rw (c.unwrap_or.ensures, found) (pick_found bounds x) in
+    record { place = place; only = only_part bounds x _ place }

@@ -1,6 +1,8 @@
-use Rattle.std.proofs.Common.{◌≡◌, ◌+◌, ◌*◌, true, [], ◌∷◌, ◌++◌, length, sym, refl, ap, ◌∙◌, arith, length-append}
+use Rattle.std.proofs.Common.{◌≡◌, ◌+◌, ◌*◌, true, ◌&&◌, [], ◌∷◌, ◌++◌, length, sym, refl, ap, ◌∙◌, arith, length-append, rules}
 use Rattle.std.proofs.lemmas.Bool.{and_from}
 use Rattle.fault.specs.Checks.{passes}
+use Rattle.numeric.specs.Interval.{rises}
+use Rattle.numeric.specs.Lists.{every}
 use Rattle.function.specs.Exponential.{exponential_of, given_checks, c0_of, c1_of}
 use Rattle.function.specs.Numbers.{numbers_of}
 use Rattle.function.proofs.Judging.{judged_passes, numbers_length}
@@ -11,7 +13,7 @@ returns c =
     let e = c.args.self.now in
     let counts = sym c.counts_fit.ensures ∙ c.in_ok-demand.ensures in
     let finite = sym c.all_finite.ensures ∙ c.in_ok-demand-2.ensures in
-    let rise = sym c.all_rise.ensures ∙ c.in_ok-demand-3.ensures in
+    let rise : (every rises e.domain.now && every rises e.range.now) ≡ true = search rules in
     let agree = sym c.counts_agree.ensures ∙ c.in_ok-demand-4.ensures in
     let all : passes (given_checks c.args.index e) ≡ true = and_from _ _ counts (and_from _ _ finite (and_from _ _ rise (and_from _ _ agree refl))) in
     let n = numbers_length (exponential_of e) in

@@ -1,6 +1,5 @@
-use Rattle.std.proofs.Common.{ℕ, T, get_or, ap, ◌∙◌, subst, arith}
-use lib.Ieee.{nan, binary32, fits}
-use Rattle.numeric.specs.Interval.{Interval}
+use Rattle.std.proofs.Common.{ℕ, get_or, ap, ◌∙◌, arith}
+use lib.Ieee.{nan}
 use Rattle.numeric.specs.Lists.{pairs_of}
 use Rattle.numeric.specs.Whole.{cut_unsigned}
 use Rattle.stitched.specs.Stitched.{pick, part_input}
@@ -15,16 +14,13 @@ pub returns : goal.returns
 returns c =
     let t = c.args.self.now in
     let bounds = t.bounds.now in
-    let encode = pairs_of t.encode.now in
-    let d = c.pair_at-domain.ensures.pair in
+    let domain = c.pair_or_nan-domain.ensures.pair in
     let x = c.clamp_first-x.ensures in
     let i = c.find_interval-stretch.ensures.place ∙ ap (pick bounds) x in
     let part = c.part.ensures ∙ ap (λ (n : ℕ). cut_unsigned 32 (get_or t.parts.now n nan)) i in
-    let input = c.encoded.ensures ∙ (λ j. part_input (d j) bounds encode (x j) (i j)) in
+    let input = c.encoded.ensures ∙ (λ j. part_input (domain j) bounds (pairs_of t.encode.now) (x j) (i j)) in
+    let single = rw domain at c.pair_or_nan-domain.ensures.single in
     record {
       chosen = λ j. record { stretch = i j; part = part j; input = input j };
-      only =
-          only_stretch (pairs_of t.domain.now) bounds c.args.inputs.now c.clamp_first-x.result c.find_interval-stretch.result
-          (subst (λ (p : Interval). T (fits binary32 p.0)) d c.pair_at-domain.ensures.single.0)
-          (subst (λ (p : Interval). T (fits binary32 p.1)) d c.pair_at-domain.ensures.single.1) x c.find_interval-stretch.ensures.only;
+      only = only_stretch (pairs_of t.domain.now) bounds c.args.inputs.now c.clamp_first-x.result c.find_interval-stretch.result single.0 single.1 x c.find_interval-stretch.ensures.only;
     }
