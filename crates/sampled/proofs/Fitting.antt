@@ -1,11 +1,15 @@
 -- The product of the Sizes of a grid. Assumes nothing.
-use Rattle.std.proofs.Common.{◌≡◌, ℕ, ◌+◌, ◌*◌, ◌<◌, ◌≤◌, Bool, true, false, ◌&&◌, ltb, leb, ◌⊎◌, List, [], ◌∷◌, length, get_or, drop, sym, ap, ◌∙◌, inl, inr, mul_assoc, mul_comm, arith}
+use Rattle.std.proofs.Common.{◌≡◌, ℕ, suc, take, length, eqb, ◌++◌, ◌*◌, ◌<◌, ◌≤◌, min, Bool, true, false, ◌&&◌, ltb, leb, ◌⊎◌, List, [], ◌∷◌, fold, refl, sym, ap, ◌∙◌, inl, inr, mul_assoc, mul_comm, arith}
+use lib.Ieee.{Float}
+use Rattle.std.proofs.Math.Nat.{min-eq_left}
 use Rattle.std.proofs.lemmas.Nat.{mul-le}
-use Rattle.std.proofs.lemmas.List.{at_drop_more, at_drop_all}
-use Rattle.std.proofs.lemmas.Bool.{and_parts, and_left, and_right, cases_Bool, ltb-true, leb-true, lt-leb}
-use Rattle.numeric.specs.Lists.{every}
-use Rattle.function.specs.Limits.{from_one_to, most_size, most_samples}
-use Rattle.sampled.specs.Sampled.{samples_needed, sizes_fit}
+use Rattle.std.proofs.lemmas.List.{append_assoc, take_all}
+use Rattle.std.proofs.lemmas.Bool.{and_parts, eqb-true, ltb-true, leb-true, lt-leb, cases_lt}
+use Rattle.numeric.specs.Lists.{every, pairs_of}
+use Rattle.numeric.specs.Whole.{cut_unsigned}
+use Rattle.function.specs.Limits.{from_one_to, most_inputs, most_size, most_samples}
+use Rattle.sampled.specs.Sampled.{samples_needed, sizes_fit, shape_fits, sizes_in}
+use Rattle.sampled.specs.declared.type0.Type0.{Type0}
 
 -- the Size that was multiplied first counts as last
 needed_moved : (s p : ℕ) (ss : List ℕ) → s * samples_needed ss p ≡ samples_needed ss (p * s)
@@ -33,33 +37,55 @@ fit_stride ss p h =
     let b = leb-true (samples_needed ss p) most_samples k.1 in
     omega arith
 
-fit_past : (ss : List ℕ) (p : ℕ) → 1048576 < p → sizes_fit ss p ≡ false
-fit_past ss p h = go (cases_Bool (every (from_one_to most_size) ss))
-  where
-    go : (every (from_one_to most_size) ss ≡ true) ⊎ (every (from_one_to most_size) ss ≡ false) → sizes_fit ss p ≡ false
-    go (inl e) = let a = needed_more ss p e in and_right _ (leb (samples_needed ss p) most_samples) (lt-leb (samples_needed ss p) most_samples (omega arith))
-    go (inr e) = and_left (every (from_one_to most_size) ss) _ e
-
 pub fit_one : (s : ℕ) (ss : List ℕ) (p : ℕ) → from_one_to most_size s ≡ true → sizes_fit (s ∷ ss) p ≡ sizes_fit ss (p * s)
 fit_one s ss p h =
     ap (λ (b : Bool). (b && every (from_one_to most_size) ss) && leb (s * samples_needed ss p) most_samples) h
     ∙ ap (λ (n : ℕ). every (from_one_to most_size) ss && leb n most_samples) (needed_moved s p ss)
 
--- ---- a loop over the Sizes that has come to i, with the product so far
+-- ---- a product that stops at the largest number fits where the product does
 
-abbrev pub FitFrom : List ℕ → ℕ → ℕ → ℕ → Type 0
-FitFrom sizes outputs i p = sizes_fit sizes outputs ≡ sizes_fit (drop i sizes) p
+abbrev pub top : ℕ
+top = 18446744073709551615
 
-pub fit_more : (sizes : List ℕ) (outputs i p : ℕ) → i < length sizes → from_one_to most_size (get_or sizes i 0) ≡ true → FitFrom sizes outputs i p → FitFrom sizes outputs (i + 1) (p * get_or sizes i 0)
-fit_more sizes outputs i p h t l = l ∙ at_drop_more (λ (ss : List ℕ). sizes_fit ss p) sizes i 0 h ∙ fit_one (get_or sizes i 0) (drop (i + 1) sizes) p t
+leb_beyond : (ss : List ℕ) (m : ℕ) → every (from_one_to most_size) ss ≡ true → most_samples < m → leb (samples_needed ss m) most_samples ≡ false
+leb_beyond ss m h b = let a = needed_more ss m h in lt-leb (samples_needed ss m) most_samples (omega arith)
 
--- a Size out of its limits, or a product that is too large already
-pub fit_fails : (sizes : List ℕ) (outputs i p : ℕ) → i < length sizes → (from_one_to most_size (get_or sizes i 0) ≡ false) ⊎ (1048576 < p) → FitFrom sizes outputs i p → false ≡ sizes_fit sizes outputs
-fit_fails sizes outputs i p h (inl t) l =
-    let ss = drop (i + 1) sizes in
-    let s = get_or sizes i 0 in
-    sym (l ∙ at_drop_more (λ (ss : List ℕ). sizes_fit ss p) sizes i 0 h ∙ and_left (from_one_to most_size s && every (from_one_to most_size) ss) (leb (samples_needed (s ∷ ss) p) most_samples) (and_left (from_one_to most_size s) (every (from_one_to most_size) ss) t))
-fit_fails sizes outputs i p h (inr t) l = sym (l ∙ fit_past (drop i sizes) p t)
+capped_same : (ss : List ℕ) (m : ℕ) → every (from_one_to most_size) ss ≡ true → leb (samples_needed ss (min m top)) most_samples ≡ leb (samples_needed ss m) most_samples
+capped_same ss m h = go (cases_lt top m)
+  where
+    go : (top < m) ⊎ (m ≤ top) → leb (samples_needed ss (min m top)) most_samples ≡ leb (samples_needed ss m) most_samples
+    go (inl b) = leb_beyond ss (min m top) h (omega arith) ∙ sym (leb_beyond ss m h (omega arith))
+    go (inr b) = ap (λ (n : ℕ). leb (samples_needed ss n) most_samples) (min-eq_left b)
 
-pub fit_all : (sizes : List ℕ) (outputs i p : ℕ) → length sizes ≤ i → FitFrom sizes outputs i p → leb p 1048576 ≡ sizes_fit sizes outputs
-fit_all sizes outputs i p h l = sym (l ∙ at_drop_all (λ (ss : List ℕ). sizes_fit ss p) sizes i h)
+capped_fit : (ss : List ℕ) (p : ℕ) → every (from_one_to most_size) ss ≡ true → leb (fold (λ n s. min (n * s) top) p ss) most_samples ≡ leb (samples_needed ss p) most_samples
+capped_fit [] p h = refl
+capped_fit (s ∷ ss) p h =
+    let k = and_parts (from_one_to most_size s) (every (from_one_to most_size) ss) h in
+    capped_fit ss (min (p * s) top) k.1 ∙ capped_same ss (p * s) k.1 ∙ ap (λ (n : ℕ). leb n most_samples) (sym (needed_moved s p ss))
+
+pub fit_capped : (ss : List ℕ) (p n : ℕ) → every (from_one_to most_size) ss ≡ true → n ≡ fold (λ n s. min (n * s) top) p ss → leb n most_samples ≡ sizes_fit ss p
+fit_capped ss p n h e = ap (λ (k : ℕ). leb k most_samples) e ∙ capped_fit ss p h ∙ sym (ap (λ (b : Bool). b && leb (samples_needed ss p) most_samples) h)
+
+-- ---- Sizes that are cut one by one
+
+-- so far `done` of them all, with n of the numbers to come, of which one more is cut
+pub cut_more : {n n' : ℕ} {number : Float} {numbers rest : List Float} {new all : List ℕ} (done : List ℕ) → n ≡ suc n' → numbers ≡ number ∷ rest → new ≡ done ++ (cut_unsigned 32 number ∷ [])
+    → done ++ take n (sizes_in numbers) ≡ all → new ++ take n' (sizes_in rest) ≡ all
+cut_more {n} {n'} {number} {numbers} {rest} {new} {all} done count first pushed inv =
+    ap (λ (ns : List ℕ). ns ++ take n' (sizes_in rest)) pushed
+    ∙ append_assoc done (cut_unsigned 32 number ∷ []) (take n' (sizes_in rest))
+    ∙ ap (λ (ns : List ℕ). done ++ ns) (sym (ap (λ (m : ℕ). take m (sizes_in numbers)) count ∙ ap (λ (fs : List Float). take (suc n') (sizes_in fs)) first))
+    ∙ inv
+
+-- where the shape fits, they are all of them, one for each input
+pub cut_whole : (t : Type0) (inputs : ℕ) (sizes : List ℕ) → shape_fits (pairs_of t.domain.now) (sizes_in t.sizes.now) (pairs_of t.encode.now) (pairs_of t.decode.now) inputs ≡ true
+    → sizes ≡ take 4 (sizes_in t.sizes.now) → (sizes ≡ sizes_in t.sizes.now) × (length sizes ≡ inputs) × (length (pairs_of t.domain.now) ≡ inputs) × (length (pairs_of t.encode.now) ≡ inputs)
+cut_whole t inputs sizes h e =
+    let a = and_parts (from_one_to most_inputs inputs) _ h in
+    let b = and_parts (eqb (length (pairs_of t.domain.now)) inputs) _ a.1 in
+    let c = and_parts (eqb (length (sizes_in t.sizes.now)) inputs) _ b.1 in
+    let d = and_parts (eqb (length (pairs_of t.encode.now)) inputs) _ c.1 in
+    let few = leb-true inputs 4 (and_parts (ltb 0 inputs) (leb inputs most_inputs) a.0).1 in
+    let same = eqb-true (length (sizes_in t.sizes.now)) inputs c.0 in
+    let whole : sizes ≡ sizes_in t.sizes.now = e ∙ take_all 4 (sizes_in t.sizes.now) (omega arith) in
+    (whole, ap length whole ∙ same, eqb-true (length (pairs_of t.domain.now)) inputs b.0, eqb-true (length (pairs_of t.encode.now)) inputs d.0)

@@ -1,68 +1,29 @@
 -- Laws of the corners around the keys. Assumes nothing.
-use Rattle.std.proofs.Common.{◌≡◌, ℕ, zero, suc, ◌+◌, ◌*◌, ◌^◌, ◌<◌, ◌≤◌, true, false, ◌&&◌, leb, List, [], ◌∷◌, ◌++◌, length, get_or, take, drop, set, pos, sym, refl, ap, ◌∙◌, subst, add_assoc, suc-mul, pow-suc, add-one, arith}
-use lib.Ieee.{Float, nan, binary32, sub, mul, eq}
+use Rattle.std.proofs.Common.{◌≡◌, ℕ, zero, suc, ◌+◌, ◌-◌, ◌*◌, ◌^◌, ◌<◌, ◌≤◌, true, ◌&&◌, leb, ◌⊎◌, List, [], ◌∷◌, ◌++◌, length, get_or, take, Some, Option, sym, refl, ap, ◌∙◌, subst, inl, inr, mul_assoc, mul_comm, suc-mul, pow-suc, arith}
+use lib.Ieee.{Float, eq}
 use lib.Ieee.Casts.{to_unsigned-lt}
 use Rattle.std.specs.List.{AllByRecursion}
-use Rattle.std.proofs.lemmas.Nat.{mul-le}
+use Rattle.std.proofs.lemmas.Nat.{mul-le, pow_pos}
 use Rattle.std.proofs.ByRecursion.{All-append, All-weaker}
-use Rattle.std.proofs.lemmas.List.{append_assoc, append-nil, length-append, length-set, length-take-le, take_more, take_more_set, take_all, drop_all, drop_more, at_drop_more}
-use Rattle.std.proofs.lemmas.Bool.{and_parts, cond-true, cond-false, cond_both}
+use Rattle.std.proofs.lemmas.List.{append_assoc, append-nil, length-append, length-take-le, take_more}
+use Rattle.std.proofs.lemmas.Bool.{and_parts, cond_both}
+use Rattle.std.specs.Borrow.{Bor}
+use Rattle.std.specs.declared.iter.Zip.{Zip}
+use Rattle.std.specs.declared.slice.Iter.{Iter}
+use Rattle.std.specs.Iterator.Adapters.{zip_first, zip_second}
+use Rattle.std.specs.Slice.Iter.{iter_rest}
+use Rattle.std.proofs.iter.Yields.{fronts}
+use Rattle.std.proofs.lemmas.Iterator.{zips}
+use Rattle.std.proofs.lemmas.Slice.Zip.{Zip-more}
+use Rattle.numeric.specs.Interval.{clamp_all}
 use Rattle.numeric.specs.Lists.{every}
-use Rattle.numeric.specs.Whole.{nearest_to}
 use Rattle.function.specs.Limits.{from_one_to, most_size, most_samples}
+use Rattle.sampled.specs.declared.dimension.Dimension.{Dimension}
 use Rattle.sampled.specs.declared.type0.Corner.{Corner}
-use Rattle.sampled.specs.Sampled.{below, beyond, corner, split, spread, corners_from, corners, one, samples_needed, sizes_fit, OffsetsBelow}
+use Rattle.sampled.specs.Grid.{domains_of, encodes_of, sizes_of, place_of}
+use Rattle.sampled.specs.Sampled.{keys, below, beyond, corner, split, spread, corners_from, corners_at, one, samples_needed, sizes_fit, OffsetsBelow}
 use Rattle.sampled.specs.Sampled as sampled
 use Rattle.sampled.proofs.Fitting.{fit_stride, fit_one}
-
--- ---- one corner, taken on to the next input
-
--- what the code has of a key: its lower neighbour, and that as a float
-module _ (k : Float) (stride : ℕ) (c : Corner) (low : ℕ) (n : Float) (p : low ≡ below k) (q : n ≡ nearest_to (pos low)) where
-  part : sub binary32 k n ≡ beyond k
-  part = ap (sub binary32 k) (q ∙ ap (λ (m : ℕ). nearest_to (pos m)) p)
-
-  lower : c.offset + low * stride ≡ c.offset + below k * stride
-  lower = ap (λ (m : ℕ). c.offset + m * stride) p
-
-  upper : c.offset + low * stride + stride ≡ c.offset + suc (below k) * stride
-  upper = ap (λ (m : ℕ). m + stride) lower ∙ add_assoc c.offset (below k * stride) stride ∙ ap (λ (m : ℕ). c.offset + m) (sym (suc-mul (below k) stride))
-
-  pub whole_is : eq (sub binary32 k n) sampled.zero ≡ true → corner c.weight (c.offset + low * stride) ∷ [] ≡ split k stride c
-  whole_is h = ap (λ (m : ℕ). corner c.weight m ∷ []) lower ∙ sym (cond-true (eq (beyond k) sampled.zero) _ _ (sym (ap (λ (x : Float). eq x sampled.zero) part) ∙ h))
-
-  pub between_is : eq (sub binary32 k n) sampled.zero ≡ false
-      → corner (mul binary32 c.weight (sub binary32 one (sub binary32 k n))) (c.offset + low * stride) ∷ corner (mul binary32 c.weight (sub binary32 k n)) (c.offset + low * stride + stride) ∷ [] ≡ split k stride c
-  between_is h =
-      ap (λ (m : ℕ). corner (mul binary32 c.weight (sub binary32 one (sub binary32 k n))) m ∷ corner (mul binary32 c.weight (sub binary32 k n)) (c.offset + low * stride + stride) ∷ []) lower
-      ∙ ap (λ (m : ℕ). corner (mul binary32 c.weight (sub binary32 one (sub binary32 k n))) (c.offset + below k * stride) ∷ corner (mul binary32 c.weight (sub binary32 k n)) m ∷ []) upper
-      ∙ ap (λ (x : Float). corner (mul binary32 c.weight (sub binary32 one x)) (c.offset + below k * stride) ∷ corner (mul binary32 c.weight x) (c.offset + suc (below k) * stride) ∷ []) part
-      ∙ sym (cond-false (eq (beyond k) sampled.zero) _ _ (sym (ap (λ (x : Float). eq x sampled.zero) part) ∙ h))
-
--- one or two corners, written behind those so far
-pub record Put (list : List Corner) (at : ℕ) (xs new : List Corner) (r : ℕ) : Type 0 where
-  pub value : take r new ≡ take at list ++ xs
-  pub count : r ≡ at + length xs
-
-pub put_one : (list : List Corner) (at : ℕ) (a : Corner) (xs : List Corner) → at + 2 ≤ length list → a ∷ [] ≡ xs → Put list at xs (set list at a) (at + 1)
-put_one list at a xs room e = record {
-  value = take_more_set list at a (omega arith) ∙ ap (λ (zs : List Corner). take at list ++ zs) e;
-  count = ap (λ (zs : List Corner). at + length zs) e;
-}
-
-pub put_two : (list : List Corner) (at : ℕ) (a b : Corner) (xs : List Corner) → at + 2 ≤ length list → a ∷ b ∷ [] ≡ xs → Put list at xs (set (set list at a) (at + 1) b) (at + 2)
-put_two list at a b xs room e =
-    let two : at + 2 ≡ at + 1 + 1 = omega arith in
-    let long = length-set list at a in
-    record {
-      value =
-          ap (λ (n : ℕ). take n (set (set list at a) (at + 1) b)) two
-          ∙ take_more_set (set list at a) (at + 1) b (omega arith)
-          ∙ ap (λ (zs : List Corner). zs ++ (b ∷ [])) (take_more_set list at a (omega arith))
-          ∙ append_assoc (take at list) (a ∷ []) (b ∷ [])
-          ∙ ap (λ (zs : List Corner). take at list ++ zs) e;
-      count = ap (λ (zs : List Corner). at + length zs) e;
-    }
 
 -- ---- how many, and how far
 
@@ -81,7 +42,7 @@ abbrev up_to : ℕ → List Corner → Type 0
 up_to n cs = AllByRecursion (λ c. c.offset ≤ n) cs
 
 -- a lower neighbour is below 2 ^ 32, a stride at most 2 ^ 20
-pub step_bound : (low stride : ℕ) → low < 2 ^ 32 → stride ≤ 1048576 → low * stride + stride ≤ 2 ^ 53
+step_bound : (low stride : ℕ) → low < 2 ^ 32 → stride ≤ 1048576 → low * stride + stride ≤ 2 ^ 53
 step_bound low stride l h = let m = mul-le low stride (2 ^ 32) 1048576 (omega arith) h in omega arith
 
 split_far : (k : Float) (stride n : ℕ) (c : Corner) → stride ≤ 1048576 → c.offset ≤ n → up_to (n + 2 ^ 53) (split k stride c)
@@ -94,119 +55,101 @@ spread_far : (k : Float) (stride n : ℕ) (cs : List Corner) → stride ≤ 1048
 spread_far k stride n [] h l = tt
 spread_far k stride n (c ∷ cs) h l = All-append (λ c. c.offset ≤ n + 2 ^ 53) (split k stride c) (spread k stride cs) (split_far k stride n c h l.0) (spread_far k stride n cs h l.1)
 
-pub far_below : (n : ℕ) (cs : List Corner) → n < 2 ^ 63 → AllByRecursion (λ c. c.offset ≤ n) cs → OffsetsBelow (2 ^ 63) cs
+far_below : (n : ℕ) (cs : List Corner) → n < 2 ^ 63 → AllByRecursion (λ c. c.offset ≤ n) cs → OffsetsBelow (2 ^ 63) cs
 far_below n cs h l = All-weaker (λ c. c.offset ≤ n) (λ c. c.offset < 2 ^ 63) (λ c k. omega arith) cs l
 
--- ---- a loop over corners that has come to i, and to the place `end`
+-- ---- a loop over corners that has come to i
 
 spread_push : (k : Float) (stride : ℕ) (cs : List Corner) (c : Corner) → spread k stride (cs ++ (c ∷ [])) ≡ spread k stride cs ++ split k stride c
 spread_push k stride [] c = append-nil (split k stride c)
 spread_push k stride (x ∷ xs) c = ap (λ (zs : List Corner). split k stride x ++ zs) (spread_push k stride xs c) ∙ sym (append_assoc (split k stride x) (spread k stride xs) (split k stride c))
 
-module _ (k : Float) (stride : ℕ) (cs : List Corner) where
-  pub record SpreadTo (new : List Corner) (i end : ℕ) : Type 0 where
-    pub value : take end new ≡ spread k stride (take i cs)
-    pub count : end ≡ length (spread k stride (take i cs))
+module _ (k : Float) (stride : ℕ) (cs : List Corner) (i : ℕ) where
+  pub spread_room : i < length cs → length (spread k stride (take i cs)) + 2 ≤ 2 * length cs
+  spread_room h = omega (arith, (spread_few k stride (take i cs)).1, length-take-le i cs (omega arith))
 
-  pub spread_none : (new : List Corner) → SpreadTo new 0 0
-  spread_none new = record { value = refl; count = refl }
+  pub spread_more : (list new : List Corner) (d : Corner) → i < length cs → new ≡ list ++ split k stride (get_or cs i d) → list ≡ spread k stride (take i cs) → new ≡ spread k stride (take (i + 1) cs)
+  spread_more list new d h pushed inv =
+      pushed ∙ ap (λ (zs : List Corner). zs ++ split k stride (get_or cs i d)) inv ∙ sym (ap (spread k stride) (take_more cs i d h) ∙ spread_push k stride (take i cs) (get_or cs i d))
 
-  pub spread_room : (new : List Corner) (i end : ℕ) → i < length cs → SpreadTo new i end → end ≤ 2 * i
-  spread_room new i end h s =
-      let few = (spread_few k stride (take i cs)).1 in
-      let l = length-take-le i cs (omega arith) in
-      omega (arith, s.count)
+-- ---- a loop over the dimensions and the inputs
 
-  pub spread_more : (new after : List Corner) (i end r : ℕ) (d : Corner) → i < length cs → take r after ≡ take end new ++ split k stride (get_or cs i d) → r ≡ end + length (split k stride (get_or cs i d))
-      → SpreadTo new i end → SpreadTo after (i + 1) r
-  spread_more new after i end r d h v n s =
-      let c = get_or cs i d in
-      let one_on : spread k stride (take (i + 1) cs) ≡ spread k stride (take i cs) ++ split k stride c = ap (spread k stride) (take_more cs i d h) ∙ spread_push k stride (take i cs) c in
-      let l = length-append (spread k stride (take i cs)) (split k stride c) in
+-- what is left to do for these dimensions and inputs
+abbrev pub taken_on : List Dimension → List Float → ℕ → List Corner → List Corner
+taken_on ds xs stride cs = corners_from (keys (domains_of ds) (encodes_of ds) (sizes_of ds) (clamp_all (domains_of ds) xs)) (sizes_of ds) stride cs
+
+-- `rest` and `left` are to come, with that stride, after `cs`
+pub record Spreading (ds : List Dimension) (xs : List Float) (outputs : ℕ) (rest : List Dimension) (left : List Float) (stride : ℕ) (cs : List Corner) : Type 0 where
+  pub same : taken_on ds xs outputs (corner one 0 ∷ []) ≡ taken_on rest left stride cs
+  pub short : length rest ≤ 4
+  pub few : length cs * 2 ^ length rest ≤ 16
+  pub low : AllByRecursion (λ c. c.offset ≤ (4 - length rest) * 2 ^ 53) cs
+  pub fit : sizes_fit (sizes_of rest) stride ≡ true
+
+few_start : (n : ℕ) → n ≤ 4 → 1 * 2 ^ n ≤ 16
+few_start zero h = omega arith
+few_start (suc zero) h = omega arith
+few_start (suc (suc zero)) h = omega arith
+few_start (suc (suc (suc zero))) h = omega arith
+few_start (suc (suc (suc (suc zero)))) h = omega arith
+few_start (suc (suc (suc (suc (suc n))))) h = absurd (omega arith)
+
+pub spreading_none : (ds : List Dimension) (xs : List Float) (outputs : ℕ) → length ds ≤ 4 → sizes_fit (sizes_of ds) outputs ≡ true → Spreading ds xs outputs ds xs outputs (corner one 0 ∷ [])
+spreading_none ds xs outputs h f = record { same = refl; short = h; few = few_start (length ds) h; low = (omega arith, tt); fit = f }
+
+module _ {ds : List Dimension} {xs : List Float} {outputs : ℕ} {stride : ℕ} {cs : List Corner} where
+  pub spreading_at : {rest rest' : List Dimension} {left left' : List Float} → rest ≡ rest' → left ≡ left' → Spreading ds xs outputs rest left stride cs → Spreading ds xs outputs rest' left' stride cs
+  spreading_at {rest} {rest'} {left} {left'} e f s = subst (λ (r : List Dimension). Spreading ds xs outputs r left' stride cs) e (subst (λ (l : List Float). Spreading ds xs outputs rest l stride cs) f s)
+
+  -- a turn of the loop
+  pub spreading_turn : (s t : Zip (Iter Dimension) (Iter Float)) {r : Option (Bor Dimension × Bor Float)} {p : Bor Dimension × Bor Float} → r ≡ Some p → zips fronts fronts s r t → Spreading ds xs outputs (iter_rest (zip_first s)) (iter_rest (zip_second s)) stride cs
+      → Spreading ds xs outputs (p.0.now ∷ iter_rest (zip_first t)) (p.1.now ∷ iter_rest (zip_second t)) stride cs
+  spreading_turn s t {r} {p} e h inv = let z = Zip-more s t r p e h in spreading_at z.0 z.1 inv
+
+pub spreading_below : {ds : List Dimension} {xs : List Float} {outputs : ℕ} {rest : List Dimension} {left : List Float} {stride : ℕ} {cs : List Corner} → Spreading ds xs outputs rest left stride cs → OffsetsBelow (2 ^ 63) cs
+spreading_below {rest = rest} {cs = cs} s = far_below ((4 - length rest) * 2 ^ 53) cs (omega arith) s.low
+
+pub spreading_stride : {ds : List Dimension} {xs : List Float} {outputs : ℕ} {rest : List Dimension} {left : List Float} {stride : ℕ} {cs : List Corner} → Spreading ds xs outputs rest left stride cs → stride ≤ 1048576
+spreading_stride {rest = rest} {stride = stride} s = fit_stride (sizes_of rest) stride s.fit
+
+module _ {ds : List Dimension} {xs : List Float} {outputs : ℕ} {d : Dimension} {rest : List Dimension} {x : Float} {left : List Float} {stride : ℕ} {cs : List Corner} (s : Spreading ds xs outputs (d ∷ rest) (x ∷ left) stride cs) where
+  pub spreading_room : 2 * length cs ≤ 16
+  spreading_room =
+      let twice = pow-suc 2 (length rest) in
+      let some = pow_pos (length rest) in
+      let all = mul-le (length cs) 2 (length cs) (2 ^ suc (length rest)) (omega arith) (omega arith) in
+      omega (arith, s.few)
+
+  next_fit : (from_one_to most_size d.size ≡ true) × (sizes_fit (sizes_of rest) (stride * d.size) ≡ true)
+  next_fit =
+      let every_one = (and_parts (from_one_to most_size d.size && every (from_one_to most_size) (sizes_of rest)) (leb (samples_needed (d.size ∷ sizes_of rest) stride) most_samples) s.fit).0 in
+      let is = (and_parts (from_one_to most_size d.size) (every (from_one_to most_size) (sizes_of rest)) every_one).0 in
+      (is, sym (fit_one d.size (sizes_of rest) stride is) ∙ s.fit)
+
+  pub spreading_product : stride * d.size ≤ 1048576
+  spreading_product = fit_stride (sizes_of rest) (stride * d.size) next_fit.1
+
+  pub spreading_more : (new : List Corner) → new ≡ spread (place_of d x) stride cs → Spreading ds xs outputs rest left (stride * d.size) new
+  spreading_more new e =
+      let twice = pow-suc 2 (length rest) in
+      let some = (spread_few (place_of d x) stride cs).1 in
+      let m = mul-le (length new) (2 ^ length rest) (2 * length cs) (2 ^ length rest) (omega (arith, ap length e)) (omega arith) in
+      let double : 2 * length cs * 2 ^ length rest ≡ length cs * 2 ^ suc (length rest) = ap (λ (n : ℕ). n * 2 ^ length rest) (mul_comm 2 (length cs)) ∙ mul_assoc (length cs) 2 (2 ^ length rest) ∙ ap (λ (n : ℕ). length cs * n) (mul_comm 2 (2 ^ length rest) ∙ sym twice) in
+      let far : (4 - length (d ∷ rest)) * 2 ^ 53 + 2 ^ 53 ≡ (4 - length rest) * 2 ^ 53 = omega (arith, s.short) in
       record {
-        value = v ∙ ap (λ (zs : List Corner). zs ++ split k stride c) s.value ∙ sym one_on;
-        count = n ∙ ap (λ (m : ℕ). m + length (split k stride c)) s.count ∙ sym l ∙ sym (ap length one_on);
+        same = s.same ∙ ap (taken_on rest left (stride * d.size)) (sym e);
+        short = omega (arith, s.short);
+        few = omega (arith, m, double, s.few);
+        low = subst (AllByRecursion (λ c. c.offset ≤ (4 - length rest) * 2 ^ 53)) (sym e) (subst (λ (n : ℕ). AllByRecursion (λ c. c.offset ≤ n) (spread (place_of d x) stride cs)) far (spread_far (place_of d x) stride ((4 - length (d ∷ rest)) * 2 ^ 53) cs (spreading_stride s) s.low));
+        fit = next_fit.1;
       }
 
-  pub spread_all : (new : List Corner) (i end : ℕ) → length cs ≤ i → SpreadTo new i end → (take end new ≡ spread k stride cs) × (end ≡ length (spread k stride cs))
-  spread_all new i end h s =
-      let all = take_all i cs h in
-      (s.value ∙ ap (spread k stride) all, s.count ∙ ap (λ (zs : List Corner). length (spread k stride zs)) all)
+taken_all : (ds : List Dimension) (xs : List Float) (stride : ℕ) (cs : List Corner) → (ds ≡ []) ⊎ (xs ≡ []) → taken_on ds xs stride cs ≡ cs
+taken_all [] xs stride cs h = refl
+taken_all (d ∷ ds) [] stride cs h = refl
+taken_all (d ∷ ds) (x ∷ xs) stride cs (inl e) = cc
+taken_all (d ∷ ds) (x ∷ xs) stride cs (inr e) = cc
 
--- ---- a loop over the keys that has come to i
-
-pub record Spreading (ks : List Float) (sizes : List ℕ) (outputs : ℕ) (list : List Corner) (i count stride : ℕ) : Type 0 where
-  pub same : corners ks sizes outputs ≡ corners_from (drop i ks) (drop i sizes) stride (take count list)
-  pub exact : length (take count list) ≡ count
-  pub few : count ≤ 2 ^ i
-  pub low : AllByRecursion (λ c. c.offset ≤ i * 2 ^ 53) (take count list)
-  pub fit : sizes_fit (drop i sizes) stride ≡ true
-
-pub spreading_none : (ks : List Float) (sizes : List ℕ) (outputs : ℕ) (list : List Corner) → 1 ≤ length list → sizes_fit sizes outputs ≡ true → Spreading ks sizes outputs (set list 0 (corner one 0)) 0 1 outputs
-spreading_none ks sizes outputs [] h f = absurd (omega arith)
-spreading_none ks sizes outputs (c ∷ cs) h f = record { same = refl; exact = refl; few = omega arith; low = (omega arith, tt); fit = f }
-
--- up to the last input there is room for twice as many
-few_room : (i count : ℕ) → i < 4 → count ≤ 2 ^ i → 2 * count ≤ 16
-few_room zero count h k = omega arith
-few_room (suc zero) count h k = omega arith
-few_room (suc (suc zero)) count h k = omega arith
-few_room (suc (suc (suc zero))) count h k = omega arith
-few_room (suc (suc (suc (suc i)))) count h k = absurd (omega arith)
-
-few_end : (i count : ℕ) → i ≤ 4 → count ≤ 2 ^ i → count ≤ 16
-few_end zero count h k = omega arith
-few_end (suc i) count h k = let t = pow-suc 2 i in let room = few_room i (2 ^ i) (omega arith) (omega arith) in omega arith
-
-module _ {ks : List Float} {sizes : List ℕ} {outputs : ℕ} {list : List Corner} {i count stride : ℕ} (s : Spreading ks sizes outputs list i count stride) where
-  pub spreading_room : i < length ks → length ks ≤ 4 → 2 * count ≤ 16
-  spreading_room h k = few_room i count (omega arith) s.few
-
-  pub spreading_stride : stride ≤ 1048576
-  spreading_stride = fit_stride (drop i sizes) stride s.fit
-
-  pub spreading_below : i ≤ 4 → OffsetsBelow (2 ^ 63) (take count list)
-  spreading_below h = far_below (i * 2 ^ 53) (take count list) (omega arith) s.low
-
-  next_fit : i < length sizes → (from_one_to most_size (get_or sizes i 0) ≡ true) × (sizes_fit (drop (i + 1) sizes) (stride * get_or sizes i 0) ≡ true)
-  next_fit h =
-      let z = get_or sizes i 0 in
-      let zs = drop (i + 1) sizes in
-      let all : sizes_fit (z ∷ zs) stride ≡ true = sym (at_drop_more (λ (ss : List ℕ). sizes_fit ss stride) sizes i 0 h) ∙ s.fit in
-      let every_one = (and_parts (from_one_to most_size z && every (from_one_to most_size) zs) (leb (samples_needed (z ∷ zs) stride) most_samples) all).0 in
-      let is = (and_parts (from_one_to most_size z) (every (from_one_to most_size) zs) every_one).0 in
-      (is, sym (fit_one z zs stride is) ∙ all)
-
-  pub spreading_product : i < length sizes → stride * get_or sizes i 0 ≤ 1048576
-  spreading_product h = fit_stride (drop (i + 1) sizes) (stride * get_or sizes i 0) (next_fit h).1
-
-  pub spreading_more : (new : List Corner) (r : ℕ) → i < length ks → i < length sizes
-      → take r new ≡ spread (get_or ks i nan) stride (take count list) → r ≡ length (spread (get_or ks i nan) stride (take count list))
-      → Spreading ks sizes outputs new (i + 1) r (stride * get_or sizes i 0)
-  spreading_more new r h k v n =
-      let key = get_or ks i nan in
-      let z = get_or sizes i 0 in
-      let old = take count list in
-      let some = (spread_few key stride old).1 in
-      let twice = pow-suc 2 i in
-      let next : 2 ^ suc i ≡ 2 ^ (i + 1) = ap (λ (m : ℕ). 2 ^ m) (sym (add-one i)) in
-      let far : i * 2 ^ 53 + 2 ^ 53 ≡ (i + 1) * 2 ^ 53 = omega arith in
-      record {
-        same =
-            s.same
-            ∙ ap (λ (xs : List Float). corners_from xs (drop i sizes) stride old) (drop_more ks i nan h)
-            ∙ ap (λ (xs : List ℕ). corners_from (key ∷ drop (i + 1) ks) xs stride old) (drop_more sizes i 0 k)
-            ∙ ap (corners_from (drop (i + 1) ks) (drop (i + 1) sizes) (stride * z)) (sym v);
-        exact = ap length v ∙ sym n;
-        few = omega (arith, s.exact, s.few);
-        low = subst (λ (cs : List Corner). AllByRecursion (λ c. c.offset ≤ (i + 1) * 2 ^ 53) cs) (sym v) (subst (λ (m : ℕ). AllByRecursion (λ c. c.offset ≤ m) (spread key stride old)) far (spread_far key stride (i * 2 ^ 53) old spreading_stride s.low));
-        fit = (next_fit k).1;
-      }
-
-  pub spreading_all : length ks ≤ i → i ≤ 4 → (take count list ≡ corners ks sizes outputs) × (count ≡ length (corners ks sizes outputs)) × (count ≤ 16)
-  spreading_all h k =
-      let all : corners ks sizes outputs ≡ take count list = s.same ∙ ap (λ (xs : List Float). corners_from xs (drop i sizes) stride (take count list)) (drop_all i ks h) in
-      (sym all, sym s.exact ∙ ap length (sym all), few_end i count k s.few)
-
-  pub spreading_far : i ≤ 4 → length ks ≤ i → OffsetsBelow (2 ^ 63) (corners ks sizes outputs)
-  spreading_far k h = subst (OffsetsBelow (2 ^ 63)) (spreading_all h k).0 (spreading_below k)
+pub spreading_all : {ds : List Dimension} {xs : List Float} {outputs : ℕ} {rest : List Dimension} {left : List Float} {stride : ℕ} {cs : List Corner} → (rest ≡ []) ⊎ (left ≡ []) → Spreading ds xs outputs rest left stride cs
+    → cs ≡ corners_at (domains_of ds) (sizes_of ds) (encodes_of ds) outputs (clamp_all (domains_of ds) xs)
+spreading_all {rest = rest} {left = left} {stride = stride} {cs = cs} h s = sym (s.same ∙ taken_all rest left stride cs h)

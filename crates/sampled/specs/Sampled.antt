@@ -4,6 +4,7 @@ use Rattle.std.specs.Prelude.{◌≡◌, ℕ, suc, ◌+◌, ◌-◌, ◌*◌, �
 use Rattle.std.specs.Float.{binary32}
 use Rattle.std.specs.Float.Ieee.{add, sub, mul, lt, eq}
 use Rattle.std.specs.List.{AllByRecursion}
+use Rattle.arrayvec.specs.ArrayVec.{ArrayVec}
 use Rattle.fault.specs.Checks.{Check, check, fault}
 use Rattle.fault.specs.declared.cause.Cause.TheVariants.{Count, NotFinite, UpsideDown, CountsDisagree, Size, NoTable, NoSample}
 use Rattle.fault.specs.declared.cause.Fault.{Fault}
@@ -180,9 +181,13 @@ decoded top [] ys = []
 decoded top (d ∷ ds) [] = []
 decoded top (d ∷ ds) (y ∷ ys) = interpolate y (zero, top) d ∷ decoded top ds ys
 
+-- why a function with that index cannot be computed without the sample at the place
+abbrev pub no_sample : ℕ → ℕ → Fault
+no_sample index place = record { cause = NoSample; index = index; place = place }
+
 abbrev pub sampled_by : ℕ → Float → List Interval → ℕ → Result (List Float) ℕ → Result Answer Fault
 sampled_by index top decode visited (Ok ys) = Ok (record { outputs = decoded top decode ys; steps = 1 + visited; drops = 0 })
-sampled_by index top decode visited (Err place) = Err (record { cause = NoSample; index = index; place = place })
+sampled_by index top decode visited (Err place) = Err (no_sample index place)
 
 -- what a sampled function makes of its clamped inputs, Range not yet applied: one step, and one for each corner
 abbrev pub sampled_answer : List Table → ℕ → List Interval → List ℕ → List Interval → List Interval → ℕ → List Float → Result Answer Fault
@@ -232,7 +237,7 @@ OwnSizes t inputs None = evaluable_by t inputs ≡ false
 abbrev pub OffsetsBelow : ℕ → List Corner → Type 0
 OffsetsBelow n cs = AllByRecursion (λ c. c.offset < n) cs
 
--- what a sum over corners answers, with what the list of sums holds then
-abbrev pub Summed : {A : Type 0} → Result (List Float) ℕ → Result A ℕ → List Float → Type 0
-Summed sums (Ok a) new = sums ≡ Ok new
-Summed sums (Err place) new = sums ≡ Err place
+-- what a sum over corners answers, for a function with that index
+abbrev pub Summed : ℕ → Result (List Float) ℕ → Result (ArrayVec Float) Fault → Type 0
+Summed index sums (Ok new) = sums ≡ Ok new.items
+Summed index sums (Err e) = (sums ≡ Err e.place) × (e ≡ no_sample index e.place)

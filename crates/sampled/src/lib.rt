@@ -2,9 +2,9 @@
 #![tactic(auto)]
 
 mod corners;
+mod dimension;
 mod evaluate;
-mod keys;
-mod laying;
+mod grid;
 mod sizes;
 mod sums;
 mod type0;

@@ -1,70 +1,102 @@
 // Summing samples over the corners, and decoding the sums.
-ghost use Rattle.std.specs.Prelude.{◌≡◌, ◌+◌, ◌^◌, ◌<◌, ◌≤◌, length};
+ghost use Rattle.std.specs.Prelude.{◌≡◌, ◌+◌, ◌^◌, ◌<◌, ◌≤◌, length, replicate};
 ghost use Rattle.numeric.specs.Lists.{pairs_of};
 ghost use Rattle.units.specs.Samples.{width_in};
 ghost use Rattle.function.specs.Outputs.{over};
-ghost use Rattle.sampled.specs.Sampled.{OffsetsBelow, Summed, add_corner, add_corners, top_of, decoded};
+ghost use Rattle.sampled.specs.Sampled.{zero, Summed, no_sample, add_corner, add_corners, top_of, decoded};
 
-use crate::keys::pair_at;
+use crate::corners::Corners;
 use crate::type0::Corner;
-use numeric::{interpolate, nearest_u32};
+use arrayvec::ArrayVec;
+use fault::{Cause, Fault};
+use function::MAX_OUTPUTS;
+use numeric::{Whole, interpolate, pair_at};
 use units::Samples;
 
-// Adds weight * sample to each sum, or says where a sample is missing.
-fn add_corner<S: Samples>(
-    samples: &S,
-    table: usize,
-    corner: Corner,
-    sums: &mut [f32],
-) -> Result<(), usize>
-    requires { corner.offset + length sums.old < 2 ^ 64 }
-    ensures { Summed (add_corner (S.tables samples.now) table corner.weight corner.offset sums.old) result sums.new }
-{
-    for i in 0..sums.len() {
-        let place = corner.offset + i;
-        match samples.sample(table, place) {
-            Some(sample) => sums[i] = sums[i] + corner.weight * nearest_u32(sample),
-            None => return Err(place),
+// Where the samples of a function come from: a unit, a table in it, and the function's own index.
+#[derive_where(Clone, Copy)]
+pub(crate) struct Source<'a, S> {
+    pub(crate) samples: &'a S,
+    pub(crate) table: usize,
+    pub(crate) index: usize,
+}
+
+impl<S: Samples> Source<'_, S> {
+    // What is answered where a sample is missing.
+    fn missing(&self, place: usize) -> Fault
+        ensures { result ≡ no_sample self.now.index place }
+    {
+        Fault {
+            cause: Cause::NoSample,
+            index: self.index,
+            place,
         }
     }
-    Ok(())
-}
 
-// The same for each corner in turn.
-pub(crate) fn add_corners<S: Samples>(
-    samples: &S,
-    table: usize,
-    list: &[Corner],
-    sums: &mut [f32],
-) -> Result<(), usize>
-    requires offsets { OffsetsBelow (2 ^ 63) list.now }
-    requires outputs { length sums.old ≤ 32 }
-    ensures { Summed (add_corners (S.tables samples.now) table list.now sums.old) result sums.new }
-{
-    for c in list {
-        add_corner(samples, table, *c, sums)?;
+    // The sums, with weight * sample added to each: a new list, so that the contract speaks of none half added to.
+    // A loop of pushes, since a sample may be missing.
+    fn add_corner(
+        &self,
+        corner: Corner,
+        sums: &ArrayVec<f32, MAX_OUTPUTS>,
+    ) -> Result<ArrayVec<f32, MAX_OUTPUTS>, Fault>
+        requires { corner.offset + length sums.now.items < 2 ^ 64 }
+        ensures { Summed self.now.index (add_corner (S.tables self.now.samples.now) self.now.table corner.weight corner.offset sums.now.items) result }
+    {
+        let mut added = ArrayVec::new();
+        for (i, sum) in sums.iter().enumerate() {
+            let place = corner.offset + i;
+            let sample = self
+                .samples
+                .sample(self.table, place)
+                .ok_or(self.missing(place))?;
+            added.push(*sum + corner.weight * sample.nearest());
+        }
+        Ok(added)
     }
-    Ok(())
-}
 
-// The largest sample of the table, 0 where there is no table.
-pub(crate) fn largest_sample<S: Samples>(samples: &S, table: usize) -> f32
-    ensures { result ≡ top_of (width_in (S.tables samples.now) table) }
-{
-    match samples.width(table) {
-        Some(width) => nearest_u32(width.largest()),
-        None => 0.0,
+    // The sums over the corners, for so many outputs: a number, whose bound no type carries.
+    pub(crate) fn add_corners(
+        &self,
+        corners: &Corners,
+        outputs: usize,
+    ) -> Result<ArrayVec<f32, MAX_OUTPUTS>, Fault>
+        requires { outputs ≤ 32 }
+        ensures { Summed self.now.index (add_corners (S.tables self.now.samples.now) self.now.table corners.now.list.items (replicate outputs zero)) result }
+    {
+        let mut sums = zeros(outputs);
+        for corner in corners.list.iter() {
+            sums = self.add_corner(*corner, &sums)?;
+        }
+        Ok(sums)
+    }
+
+    // The largest sample, 0 where there is no table: no sum comes to be decoded by that.
+    pub(crate) fn largest(&self) -> f32
+        ensures { result ≡ top_of (width_in (S.tables self.now.samples.now) self.now.table) }
+    {
+        self.samples
+            .width(self.table)
+            .map_or(0.0, |width| width.largest().nearest())
     }
 }
 
-// Writes the sums, taken to Decode, to the front of the outputs, as far as they go.
+fn zeros(count: usize) -> ArrayVec<f32, MAX_OUTPUTS>
+    requires { count ≤ 32 }
+    ensures { result.items ≡ replicate count zero }
+{
+    let mut list = ArrayVec::from([0.0; MAX_OUTPUTS]);
+    list.truncate(count);
+    list
+}
+
+// Writes the sums, taken to Decode, to the front of the outputs, as far as all three lists go.
 pub(crate) fn put_decoded(top: f32, decode: &[f32], sums: &[f32], outputs: &mut [f32])
-    requires { length (pairs_of decode.now) ≡ length sums.now }
     ensures { outputs.new ≡ over (decoded top (pairs_of decode.now) sums.now) outputs.old }
 {
-    let count = sums.len().min(outputs.len());
-    for i in 0..count {
-        let pair = pair_at(decode, i);
-        outputs[i] = interpolate(sums[i], 0.0, top, pair.0, pair.1);
+    for (i, output) in outputs.iter_mut().enumerate() {
+        if let (Some(sum), Some(pair)) = (sums.get(i), pair_at(decode, i)) {
+            *output = interpolate(*sum, (0.0, top), pair);
+        }
     }
 }

@@ -1,25 +1,24 @@
 // Sampled functions (type 0).
-ghost use Rattle.std.specs.Prelude.{◌≡◌, ◌&&◌, length, is_some, ◌==◌};
+ghost use Rattle.std.specs.Prelude.{◌≡◌, ◌&&◌, length, is_some};
 ghost use Rattle.fault.specs.Checks.{first_fault};
 ghost use Rattle.numeric.specs.Interval.{both_finite, rises};
 ghost use Rattle.numeric.specs.Lists.{every, flat, Lays};
 ghost use Rattle.units.specs.Samples.{width_in};
-ghost use Rattle.function.specs.Limits.{from_one_to, most_inputs, most_outputs};
 ghost use Rattle.function.specs.Numbers.{judged};
 ghost use Rattle.sampled.specs.Sampled.{encode_of, decode_of, grid_counts, grid_finite, grid_agrees, given_checks, given_entries, size_numbers};
 
-use crate::laying::{put_grid, put_sizes};
-use crate::sizes::{grid_finite, sizes_fit};
+use crate::sizes::{grid_finite, last_point, sizes_fit};
 use fault::{Cause, Fault, demand};
-use numeric::{pairs_finite, pairs_rise, put_pairs};
+use function::MAX_OUTPUTS;
+use numeric::{Whole, all_finite, pairs_rise, put, put_each};
 use units::Samples;
 
 pub(crate) const MAX_INPUTS: usize = 4;
 
-pub(crate) const MAX_OUTPUTS: usize = 32;
-
 // What a caller gives of a sampled function: Encode and Decode where they are not the whole grid and the Range.
-#[derive(Clone, Copy)]
+// Lists of their own, as in a file, where one may be longer than another: check refuses that. domain and range are fields
+// of each kind, as in a file's dictionary: a struct of the two is no plainer for callers.
+#[derive(Clone, Copy, Debug, PartialEq)]
 pub struct Sampled<'c> {
     pub domain: &'c [(f32, f32)],
     pub sizes: &'c [u32],
@@ -33,17 +32,15 @@ impl<'c> Sampled<'c> {
     fn encode_count(&self) -> usize
         ensures { result ≡ length (encode_of self.now) }
     {
-        match self.encode {
-            Some(pairs) => pairs.len(),
-            None => self.sizes.len(),
-        }
+        self.encode.map_or(self.sizes.len(), |pairs| pairs.len())
     }
 
+    // A match: two different calls, which map_or_else says no plainer.
     fn encode_finite(&self) -> bool
         ensures { result ≡ every both_finite (encode_of self.now) }
     {
         match self.encode {
-            Some(pairs) => pairs_finite(pairs),
+            Some(pairs) => all_finite(pairs),
             None => grid_finite(self.sizes),
         }
     }
@@ -52,60 +49,43 @@ impl<'c> Sampled<'c> {
     fn decode_pairs(&self) -> &'c [(f32, f32)]
         ensures { result.now ≡ decode_of self.now }
     {
-        match self.decode {
-            Some(pairs) => pairs,
-            None => self.range,
-        }
+        self.decode.unwrap_or(self.range)
     }
 
     fn counts_fit(&self) -> bool
         ensures { result ≡ grid_counts self.now.domain.now self.now.sizes.now self.now.range.now }
     {
-        is_input_count(self.domain.len())
-            && is_input_count(self.sizes.len())
-            && is_output_count(self.range.len())
+        (1..=MAX_INPUTS).contains(&self.domain.len())
+            && (1..=MAX_INPUTS).contains(&self.sizes.len())
+            && (1..=MAX_OUTPUTS).contains(&self.range.len())
     }
 
     fn all_finite(&self) -> bool
         ensures { result ≡ grid_finite self.now.domain.now self.now.range.now (encode_of self.now) (decode_of self.now) }
     {
-        pairs_finite(self.domain)
-            && pairs_finite(self.range)
+        all_finite(self.domain)
+            && all_finite(self.range)
             && self.encode_finite()
-            && pairs_finite(self.decode_pairs())
-    }
-
-    fn all_rise(&self) -> bool
-        ensures { result ≡ (every rises self.now.domain.now && every rises self.now.range.now) }
-    {
-        pairs_rise(self.domain) && pairs_rise(self.range)
-    }
-
-    fn encode_agrees(&self) -> bool
-        ensures { result ≡ (length (encode_of self.now) == length self.now.domain.now) }
-    {
-        self.encode_count() == self.domain.len()
-    }
-
-    fn decode_agrees(&self) -> bool
-        ensures { result ≡ (length (decode_of self.now) == length self.now.range.now) }
-    {
-        self.decode_pairs().len() == self.range.len()
+            && all_finite(self.decode_pairs())
     }
 
     fn counts_agree(&self) -> bool
         ensures { result ≡ grid_agrees self.now.domain.now self.now.range.now self.now.sizes.now (encode_of self.now) (decode_of self.now) }
     {
-        self.sizes.len() == self.domain.len() && self.encode_agrees() && self.decode_agrees()
+        self.sizes.len() == self.domain.len()
+            && self.encode_count() == self.domain.len()
+            && self.decode_pairs().len() == self.range.len()
     }
 
     // The number entries that the function takes, or the fault for which it cannot be loaded at the index.
     pub fn check(&self, index: usize) -> Result<usize, Fault>
         ensures { result ≡ judged (first_fault (given_checks index self.now)) (given_entries self.now) }
     {
+        // Each kind begins with these four: a function for all would take four flags in a row, or a trait with as many methods.
         demand(self.counts_fit(), Fault::new(Cause::Count, index))?;
         demand(self.all_finite(), Fault::new(Cause::NotFinite, index))?;
-        demand(self.all_rise(), Fault::new(Cause::UpsideDown, index))?;
+        let rise = pairs_rise(self.domain) && pairs_rise(self.range);
+        demand(rise, Fault::new(Cause::UpsideDown, index))?;
         demand(
             self.counts_agree(),
             Fault::new(Cause::CountsDisagree, index),
@@ -126,20 +106,20 @@ impl<'c> Sampled<'c> {
     }
 
     // Writes the Sizes into the list from `at` on, and says which place lies behind them. Where they do not fit, nothing is
-    // written and the place is `at`.
+    // written and the place is `at`: the contract fixes that answer, and no caller has a refusal to pass on.
     pub fn put_sizes(&self, list: &mut [f32], at: usize) -> usize
         ensures { Lays list.old at (size_numbers self.now.sizes.now) list.new result }
     {
-        put_sizes(list, at, self.sizes)
+        put_each(list, at, self.sizes, |size| size.nearest())
     }
 
-    // The same for the Encode pairs, given or by default.
+    // The same for the Encode pairs, given or by default: two different calls, which map_or_else says no plainer.
     pub fn put_encode(&self, list: &mut [f32], at: usize) -> usize
         ensures { Lays list.old at (flat (encode_of self.now)) list.new result }
     {
         match self.encode {
-            Some(pairs) => put_pairs(list, at, pairs),
-            None => put_grid(list, at, self.sizes),
+            Some(given) => put(list, at, given),
+            None => put_each(list, at, self.sizes, |size| (0.0, last_point(size))),
         }
     }
 
@@ -147,31 +127,20 @@ impl<'c> Sampled<'c> {
     pub fn put_decode(&self, list: &mut [f32], at: usize) -> usize
         ensures { Lays list.old at (flat (decode_of self.now)) list.new result }
     {
-        put_pairs(list, at, self.decode_pairs())
+        let pairs = self.decode_pairs();
+        put(list, at, pairs)
     }
 }
 
-pub(crate) fn is_input_count(n: usize) -> bool
-    ensures { result ≡ from_one_to most_inputs n }
-{
-    0 < n && n <= MAX_INPUTS
-}
-
-pub(crate) fn is_output_count(n: usize) -> bool
-    ensures { result ≡ from_one_to most_outputs n }
-{
-    0 < n && n <= MAX_OUTPUTS
-}
-
 // A grid point around the inputs: its weight, and the place of its first sample in the table.
-#[derive(Clone, Copy)]
+#[derive(Clone, Copy, Debug, Default, PartialEq)]
 pub struct Corner {
     pub weight: f32,
     pub offset: usize,
 }
 
-// A loaded sampled function: its parts of the number list.
-#[derive(Clone, Copy)]
+// A loaded sampled function: its parts of the number list, pairs number after number, since a set has one list of numbers.
+#[derive(Clone, Copy, Debug, PartialEq)]
 pub struct Type0<'a> {
     pub domain: &'a [f32],
     pub range: &'a [f32],

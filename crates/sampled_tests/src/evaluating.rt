@@ -1,34 +1,24 @@
 // Loaded functions on small tables of 8 bits.
+use crate::bytes;
 use fault::{Cause, Fault};
 use sampled::Type0;
-use units::{Samples, Stretch, Unpacked};
+use units::{Samples, Unpacked};
 
 #[derive(Clone, Copy)]
 struct Seen {
     output: f32,
-    steps: usize,
-    fault: Option<Fault>,
+    steps: Result<usize, Fault>,
 }
 
 // The first output, which is -1 where nothing is written, of a function at the index 5.
 fn run<S: Samples>(function: &Type0, unit: &S, inputs: &[f32]) -> Seen {
     let mut outputs = [-1.0];
-    let (steps, fault) = match function.eval(unit, 5, inputs, &mut outputs) {
-        Ok(counts) => (counts.steps, None),
-        Err(fault) => (0, Some(fault)),
-    };
+    let steps = function
+        .eval(unit, 5, inputs, &mut outputs)
+        .map(|counts| counts.steps);
     Seen {
         output: outputs[0],
         steps,
-        fault,
-    }
-}
-
-fn bytes(length: usize) -> Stretch {
-    Stretch {
-        width: 8,
-        start: 0,
-        length,
     }
 }
 
@@ -67,10 +57,10 @@ fn between_neighbours(rt: HostRuntime) {
     let unit = Unpacked::new(&[10, 20, 40], &directory);
     let whole = run(&function, &unit, &[0.5]);
     assert_eq!(rt; whole.output, 20.0);
-    assert_eq!(rt; whole.steps, 2);
+    assert!(rt; whole.steps == Ok(2));
     let between = run(&function, &unit, &[0.25]);
     assert_eq!(rt; between.output, 15.0);
-    assert_eq!(rt; between.steps, 3);
+    assert!(rt; between.steps == Ok(3));
     assert_eq!(rt; run(&function, &unit, &[9.0]).output, 40.0);
     assert_eq!(rt; run(&function, &unit, &[f32::NAN]).output, 40.0);
 }
@@ -83,7 +73,7 @@ fn first_input_varies_fastest(rt: HostRuntime) {
     assert_eq!(rt; run(&square(), &unit, &[0.0, 1.0]).output, 3.0);
     let middle = run(&square(), &unit, &[0.5, 0.5]);
     assert_eq!(rt; middle.output, 2.5);
-    assert_eq!(rt; middle.steps, 5);
+    assert!(rt; middle.steps == Ok(5));
 }
 
 #[test]
@@ -93,7 +83,7 @@ fn one_point_domain_gives_key_0(rt: HostRuntime) {
     let unit = Unpacked::new(&[10, 20, 40], &directory);
     let one = run(&function, &unit, &[0.5]);
     assert_eq!(rt; one.output, 10.0);
-    assert_eq!(rt; one.steps, 2);
+    assert!(rt; one.steps == Ok(2));
 }
 
 #[test]
@@ -116,7 +106,7 @@ fn missing_sample(rt: HostRuntime) {
         index: 5,
         place: 2,
     };
-    assert!(rt; lacking.fault == Some(fault));
+    assert!(rt; lacking.steps == Err(fault));
     assert_eq!(rt; lacking.output, -1.0);
 }
 
@@ -124,8 +114,8 @@ fn missing_sample(rt: HostRuntime) {
 fn not_what_loading_lets_in(rt: HostRuntime) {
     let directory = [bytes(3)];
     let unit = Unpacked::new(&[10, 20, 40], &directory);
-    let size = Some(Fault::new(Cause::Size, 5));
-    assert!(rt; run(&line(&UNIT, &[0.0, 2.0]), &unit, &[]).fault == size);
-    assert!(rt; run(&line(&UNIT, &[0.0, 2.0]), &unit, &[0.5, 0.5]).fault == size);
-    assert!(rt; run(&line(&UNIT, &[]), &unit, &[0.5]).fault == size);
+    let size = Err(Fault::new(Cause::Size, 5));
+    assert!(rt; run(&line(&UNIT, &[0.0, 2.0]), &unit, &[]).steps == size);
+    assert!(rt; run(&line(&UNIT, &[0.0, 2.0]), &unit, &[0.5, 0.5]).steps == size);
+    assert!(rt; run(&line(&UNIT, &[]), &unit, &[0.5]).steps == size);
 }

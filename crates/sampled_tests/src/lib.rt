@@ -5,3 +5,16 @@
 mod evaluating;
 #[cfg(test)]
 mod loading;
+
+#[cfg(test)]
+use units::Stretch;
+
+// A table of so many samples of 8 bits, at the front of a unit.
+#[cfg(test)]
+fn bytes(length: usize) -> Stretch {
+    Stretch {
+        width: 8,
+        start: 0,
+        length,
+    }
+}

@@ -1,6 +1,8 @@
 // What is given: the checks in their order, and the numbers that are laid.
+use crate::bytes;
+use fault::{Cause, Fault};
 use sampled::Sampled;
-use units::{Stretch, Unpacked};
+use units::Unpacked;
 
 const UNIT: [(f32, f32); 1] = [(0.0, 1.0)];
 
@@ -23,36 +25,41 @@ fn plain<'c>(domain: &'c [(f32, f32)], sizes: &'c [u32], range: &'c [(f32, f32)]
     }
 }
 
-// The entries, or the index and the number of the refusal.
-fn said<'c>(domain: &'c [(f32, f32)], sizes: &'c [u32], range: &'c [(f32, f32)]) -> (usize, u8) {
-    match plain(domain, sizes, range).check(3) {
-        Ok(entries) => (entries, 0),
-        Err(fault) => (fault.index, fault.cause.number()),
-    }
+// The entries, or why the function cannot be loaded at the index 3.
+fn said<'c>(
+    domain: &'c [(f32, f32)],
+    sizes: &'c [u32],
+    range: &'c [(f32, f32)],
+) -> Result<usize, Fault> {
+    plain(domain, sizes, range).check(3)
+}
+
+fn refused(cause: Cause) -> Result<usize, Fault> {
+    Err(Fault::new(cause, 3))
 }
 
 #[test]
 fn entries(rt: HostRuntime) {
-    assert_eq!(rt; said(&UNIT, &[3], &UNIT), (9, 0));
-    assert_eq!(rt; said(&FOUR, &[2, 3, 4, 5], &UNIT), (24, 0));
+    assert_eq!(rt; said(&UNIT, &[3], &UNIT), Ok(9));
+    assert_eq!(rt; said(&FOUR, &[2, 3, 4, 5], &UNIT), Ok(24));
 }
 
 #[test]
 fn refusals_in_order(rt: HostRuntime) {
-    assert_eq!(rt; said(&[], &[0], &DOWN), (3, 2));
-    assert_eq!(rt; said(&ENDLESS, &[0], &DOWN), (3, 3));
-    assert_eq!(rt; said(&DOWN, &[0, 1], &UNIT), (3, 4));
-    assert_eq!(rt; said(&UNIT, &[0, 1], &UNIT), (3, 5));
-    assert_eq!(rt; said(&UNIT, &[0], &UNIT), (3, 6));
+    assert_eq!(rt; said(&[], &[0], &DOWN), refused(Cause::Count));
+    assert_eq!(rt; said(&ENDLESS, &[0], &DOWN), refused(Cause::NotFinite));
+    assert_eq!(rt; said(&DOWN, &[0, 1], &UNIT), refused(Cause::UpsideDown));
+    assert_eq!(rt; said(&UNIT, &[0, 1], &UNIT), refused(Cause::CountsDisagree));
+    assert_eq!(rt; said(&UNIT, &[0], &UNIT), refused(Cause::Size));
 }
 
 #[test]
 fn products(rt: HostRuntime) {
-    assert_eq!(rt; said(&TWO, &[1024, 1024], &UNIT), (14, 0));
-    assert_eq!(rt; said(&TWO, &[1024, 1024], &TWO), (3, 6));
-    assert_eq!(rt; said(&TWO, &[1024, 1025], &UNIT), (3, 6));
-    assert_eq!(rt; said(&UNIT, &[65_536], &UNIT), (3, 6));
-    assert_eq!(rt; said(&FOUR, &[u32::MAX; 4], &UNIT), (3, 6));
+    assert_eq!(rt; said(&TWO, &[1024, 1024], &UNIT), Ok(14));
+    assert_eq!(rt; said(&TWO, &[1024, 1024], &TWO), refused(Cause::Size));
+    assert_eq!(rt; said(&TWO, &[1024, 1025], &UNIT), refused(Cause::Size));
+    assert_eq!(rt; said(&UNIT, &[65_536], &UNIT), refused(Cause::Size));
+    assert_eq!(rt; said(&FOUR, &[u32::MAX; 4], &UNIT), refused(Cause::Size));
 }
 
 #[test]
@@ -68,13 +75,8 @@ fn numbers_laid(rt: HostRuntime) {
 
 #[test]
 fn tables(rt: HostRuntime) {
-    let words = [1, 2, 3];
-    let directory = [Stretch {
-        width: 8,
-        start: 0,
-        length: 3,
-    }];
-    let unit = Unpacked::new(&words, &directory);
+    let directory = [bytes(3)];
+    let unit = Unpacked::new(&[1, 2, 3], &directory);
     let given = plain(&UNIT, &[3], &UNIT);
     assert!(rt; given.has_table(&unit));
     let other = Sampled { table: 1, ..given };

@@ -1,24 +1,11 @@
-use Rattle.std.proofs.Common.{◌≡◌, ℕ, ◌<◌, List, length, get_or, set, sym, ap, ◌∙◌, arith}
-use lib.Ieee.{nan}
-use Rattle.std.proofs.lemmas.List.{length-map, get_or-map}
-use Rattle.numeric.specs.Whole.{cut_unsigned}
-use Rattle.function.proofs.Writing.{over_more, over_all}
-use Rattle.sampled.specs.Sampled.{sizes_in}
+use Rattle.std.proofs.Common.{◌≡◌, ◌++◌, [], ◌∷◌, suc, ap, ◌∙◌, rules, arith}
+use Rattle.sampled.proofs.Fitting.{cut_more}
 use Rattle.sampled.proofs.sizes.cut_sizes.Goals as goal
 
-pub loop-i-preserved : goal.loop-i-preserved
-loop-i-preserved c =
-    let xs = c.args.numbers.now in
-    let i = c.loop-i.i in
-    let n = length-map xs (cut_unsigned 32) in
-    let h : i < length xs = omega arith in
-    let same : c.cut_u32.result ≡ get_or (sizes_in xs) i 0 = c.cut_u32.ensures ∙ sym (get_or-map (cut_unsigned 32) xs i nan 0 h) in
-    ap (λ (v : ℕ). set c.loop-i.into i v) same
-    ∙ ap (λ (zs : List ℕ). set zs i (get_or (sizes_in xs) i 0)) c.loop-i.invariant
-    ∙ over_more (sizes_in xs) c.args.into.now i 0 (omega arith) (omega arith)
-
-pub returns : goal.returns
-returns c =
-    let xs = c.args.numbers.now in
-    let n = length-map xs (cut_unsigned 32) in
-    c.loop-i.invariant ∙ over_all (sizes_in xs) c.args.into.now c.loop-i.i (omega arith)
+pub loop-number-preserved : goal.loop-number-preserved
+loop-number-preserved c =
+    let count : c.loop-number.number-iterator.n ≡ suc c.next.new.self.n = search rules in
+    let first : c.loop-number.number-iterator.iter.rest.now ≡ c.in-Some.number.now ∷ c.next.new.self.iter.rest.now = search rules in (
+      omega (arith, c.push.ensures.len, count, c.loop-number.invariant.0),
+      cut_more c.loop-number.sizes.items count first (c.push.ensures.items ∙ ap (λ s. c.loop-number.sizes.items ++ (s ∷ [])) c.cut.ensures) c.loop-number.invariant.1,
+    )

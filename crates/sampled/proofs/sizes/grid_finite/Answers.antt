@@ -1,11 +1,12 @@
-use Rattle.sampled.proofs.Grids.{finite_more, finite_fails, finite_all}
+use Rattle.std.proofs.Common.{◌-◌, ℕ, pos, ◌∙◌, rules, tests}
+use Rattle.std.specs.Float.{float_is_finite}
+use Rattle.std.proofs.lemmas.Iterator.{YieldsList-from_slice}
+use Rattle.std.proofs.lemmas.Iterator.Search.{all_from_yields_List}
+use Rattle.numeric.specs.Whole.{nearest_to}
+use Rattle.sampled.proofs.Grids.{points_finite}
 use Rattle.sampled.proofs.sizes.grid_finite.Goals as goal
 
-pub returns-then-not-is_finite : goal.returns-then-not-is_finite
-returns-then-not-is_finite c = finite_fails c.args.sizes.now c.loop-size.size-index _ c.loop-size-test.true c.last_point.ensures c.if-not-is_finite.ensures.value c.loop-size.invariant
-
-pub loop-size-preserved : goal.loop-size-preserved
-loop-size-preserved c = finite_more c.args.sizes.now c.loop-size.size-index _ c.loop-size-test.true c.last_point.ensures c.if-not-is_finite.ensures.value c.loop-size.invariant
-
 pub returns : goal.returns
-returns c = finite_all c.args.sizes.now c.loop-size.size-index c.loop-size-test.false c.loop-size.invariant
+returns c =
+    all_from_yields_List (λ (s : ℕ). float_is_finite (nearest_to (pos (s - 1)))) _ _ _ c.all.ensures.ran (YieldsList-from_slice c.args.sizes.now cc) (λ x b q k. search (rules, tests))
+    ∙ points_finite c.args.sizes.now

@@ -1,32 +1,31 @@
-use Rattle.std.proofs.Common.{◌≡◌, ℕ, ◌-◌, ◌≤◌, length, take, replicate, Err, Result, sym, ap, ◌∙◌, arith}
-use Rattle.std.proofs.lemmas.List.{take-replicate}
-use Rattle.fault.specs.declared.cause.Fault.{Fault}
-use Rattle.function.specs.Answer.{Answer, reply_of}
-use Rattle.sampled.specs.Sampled as sampled
-use Rattle.sampled.specs.Sampled.{outputs_after}
-use Rattle.sampled.proofs.Evaluating.{refused, own_room, evaluable_shape}
+use Rattle.std.proofs.Common.{ℕ, ◌+◌, List, length, take, Some, Ok, ap, rules, ◌∙◌}
+use lib.Ieee.{Float}
+use Rattle.numeric.specs.Interval.{clamp_all}
+use Rattle.numeric.specs.Lists.{pairs_of}
+use Rattle.function.specs.Outputs.{over}
+use Rattle.sampled.specs.Grid.{sizes_of, GridOf}
+use Rattle.sampled.specs.Sampled.{decoded, OwnSizes}
+use Rattle.sampled.proofs.Evaluating.{summed}
 use Rattle.sampled.proofs.type0.Type0.eval.Goals as goal
 
-pub returns-in_default : goal.returns-in_default
-returns-in_default g c =
-    let no = refused (g.S.Samples.tables c.args.samples.now) c.args.index c.args.self.now c.args.inputs.now c.in_default.ensures in
-    record { reply = ap (λ (e : Fault). Err e) c.new.ensures ∙ sym (ap reply_of no); wrote = sym (ap (λ (r : Result Answer Fault). outputs_after r c.args.outputs.now) no) }
-
-pub slice_bounds-eval_by-end : goal.slice_bounds-eval_by-end
-slice_bounds-eval_by-end g c = own_room c.args.self.now (length c.args.inputs.now) c.in-Some.sizes c.in-Some.ensures.0 c.in-Some.ensures.1
-
-pub slice_bounds-sums-end : goal.slice_bounds-sums-end
-slice_bounds-sums-end g c = let s = evaluable_shape c.args.self.now (length c.args.inputs.now) c.in-Some.ensures.0 in let few : c.pair_count-end.result ≤ 32 = omega (arith, s.outputs, c.pair_count-end.ensures) in few
-
-pub eval_by-requires : goal.eval_by-requires
-eval_by-requires g c =
-    let s = evaluable_shape c.args.self.now (length c.args.inputs.now) c.in-Some.ensures.0 in
-    let n = c.pair_count-end.result in
-    let few : n - 0 ≤ 32 = omega (arith, s.outputs, c.pair_count-end.ensures) in
-    let all : length c.args.inputs.now - 0 ≡ length c.args.inputs.now = omega arith in
-    let same : n - 0 ≡ n = omega arith in
+pub returns : goal.returns
+returns g c =
+    let t = c.args.self.now in
+    let old = c.args.outputs.now in
+    let tables = g.S.Samples.tables c.args.samples.now in
+    let n = c.in_ok-grid.grid.outputs in
+    let sums = c.in_ok-sums.sums.items in
+    let mid = c.put_decoded.new.outputs in
+    let own : OwnSizes t (length c.args.inputs.now) (Some (sizes_of c.in_ok-grid.grid.dimensions.items)) = search rules in
+    let parts : GridOf t c.in_ok-grid.grid.dimensions.items n = search rules in
+    let done = summed tables c.args.index t c.args.inputs.now c.in_ok-grid.grid.dimensions.items n own.0 parts c.corners-corners.result.list.items sums mid c.clamp_front.new.outputs old c.largest.result c.corners-corners.ensures
+    c.in_ok-sums.ensures c.largest.ensures
+    (c.put_decoded.ensures ∙ ap (λ (ys : List Float). over (decoded c.largest.result (pairs_of t.decode.now) ys) old) c.deref.ensures.0)
+    (c.clamp_front.ensures ∙ ap (λ (k : ℕ). over (clamp_all (pairs_of t.range.now) (take k mid)) mid) c.len.ensures.value) in
     record {
-      evaluable = c.in-Some.ensures.0;
-      sizes = ap (λ (k : ℕ). take k c.in-Some.sizes) all ∙ c.in-Some.ensures.1;
-      sums = take-replicate (n - 0) 32 sampled.zero few ∙ ap (λ (k : ℕ). replicate k sampled.zero) (same ∙ c.pair_count-end.ensures);
+      reply =
+          ap (λ (k : ℕ). Ok (record { outputs = k; steps = 1 + c.len-3.result; drops = 0 })) c.len-2.ensures.value
+          ∙ ap (λ (k : ℕ). Ok (record { outputs = length sums; steps = 1 + k; drops = 0 })) c.len-3.ensures.value
+          ∙ done.0;
+      wrote = done.1;
     }

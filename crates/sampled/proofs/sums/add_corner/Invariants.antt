@@ -1,5 +1,0 @@
-use Rattle.sampled.proofs.Adding.{AddedTo}
-use Rattle.sampled.proofs.sums.add_corner.Given as goal
-
-abbrev pub invariant-loop-i : goal.invariant-loop-i
-invariant-loop-i g l = AddedTo (g.S.Samples.tables l.samples) l.table l.corner.weight l.corner.offset l.initial.sums l.sums l.i
