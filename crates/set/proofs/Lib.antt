@@ -1,6 +1,6 @@
-pub mod Between
 pub mod Calling
+pub mod Filling
 pub mod Growing
 pub mod Loading
+pub mod Ranges
 pub mod Reading
-pub mod Rooming

@@ -6,6 +6,15 @@ use Rattle.set.specs.Model.{Entries, entries}
 use Rattle.set.specs.Steps.{opens}
 use Rattle.set.specs.declared.memory.Memory.{Memory}
 
+-- what the three lists hold, used or not
+pub record Lists : Type 0 where
+  pub records : List Record
+  pub numbers : List Float
+  pub instructions : List Instruction
+
+abbrev pub lists_of : Memory → Lists
+lists_of m = record { records = m.records.now; numbers = m.numbers.now; instructions = m.instructions.now }
+
 abbrev pub lengths : Memory → Entries
 lengths m = entries (length m.records.now) (length m.numbers.now) (length m.instructions.now)
 

@@ -1,3 +1,4 @@
+pub mod Fill
 pub mod Lent
 pub mod Model
 pub mod State

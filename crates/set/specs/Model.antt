@@ -1,12 +1,8 @@
 -- A set as its callers see it: the loaded functions, and the entries that are still free. Assumes nothing.
 use Rattle.std.specs.Prelude.{ℕ, List}
 use Rattle.function.specs.Function.{Function}
-
--- a number of entries in each of the three lists of a set
-pub record Entries : Type 0 where
-  pub functions : ℕ
-  pub numbers : ℕ
-  pub instructions : ℕ
+-- and a number of entries in each of the three lists
+pub use Rattle.set.specs.declared.entries.Entries.{Entries}
 
 abbrev pub entries : ℕ → ℕ → ℕ → Entries
 entries functions numbers instructions = record { functions = functions; numbers = numbers; instructions = instructions }

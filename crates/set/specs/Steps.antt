@@ -1,8 +1,8 @@
 -- What each call does to a set and answers, as functions of the set's model. Assumes nothing.
-use Rattle.std.specs.Prelude.{ℕ, ◌-◌, Bool, true, ◌&&◌, List, [], ◌∷◌, ◌++◌, length, drop, Some, None, Ok, Err, Option, Result, ◌==◌, nat_le, nat_lt, slice_index_or, Float}
+use Rattle.std.specs.Prelude.{◌≡◌, ℕ, ◌-◌, Bool, true, false, ◌&&◌, List, [], ◌∷◌, ◌++◌, length, drop, Some, None, Ok, Err, Option, Result, ◌==◌, nat_le, nat_lt, slice_index_or, Float}
 use Rattle.std.specs.Float.{nan}
 use Rattle.fault.specs.Checks.{Check, check, fault, first_fault, passes}
-use Rattle.fault.specs.declared.cause.Cause.TheVariants.{Room, NoFunction, InputCount, OutputList}
+use Rattle.fault.specs.declared.cause.Cause.TheVariants.{SetList, Room, NoFunction, InputCount, OutputList}
 use Rattle.fault.specs.declared.cause.Fault.{Fault}
 use Rattle.numeric.specs.Interval.{Interval}
 use Rattle.function.specs.Answer.{Answer, Meaning, counts_of}
@@ -22,6 +22,10 @@ longest = entries 256 16384 4096
 
 abbrev pub opens : Entries → Bool
 opens given = from_one_to longest.functions given.functions && (from_one_to longest.numbers given.numbers && from_one_to longest.instructions given.instructions)
+
+-- lists of these lengths are refused by e
+abbrev pub IsRefused : Entries → Fault → Type 0
+IsRefused given e = (opens given ≡ false) × (e ≡ fault SetList 0)
 
 -- a set just opened
 abbrev pub opened : Entries → Model

@@ -8,19 +8,15 @@ use Rattle.function.specs.declared.record.Kind.{Kind}
 use Rattle.function.specs.declared.record.Kind.TheVariants.{Exponential}
 use Rattle.function.specs.declared.record.Record.{Record}
 
--- the entries from a up to b
-abbrev pub between : {A : Type 0} → List A → ℕ → ℕ → List A
-between xs a b = slice_range xs a b
-
 -- ---- from the lists to functions
 
 abbrev pub body_at : List Float → ℕ → Kind → Body
-body_at numbers own (Exponential c1 n) = exponential (between numbers own c1) (between numbers c1 n) (slice_index_or numbers n nan)
+body_at numbers own (Exponential c1 n) = exponential (slice_range numbers own c1) (slice_range numbers c1 n) (slice_index_or numbers n nan)
 
 abbrev pub function_at : List Float → Record → Function
 function_at numbers r = record {
-  domain = pairs_of (between numbers r.domain r.range);
-  range = pairs_of (between numbers r.range r.own);
+  domain = pairs_of (slice_range numbers r.domain r.range);
+  range = pairs_of (slice_range numbers r.range r.own);
   body = body_at numbers r.own r.kind;
 }
 

@@ -1,24 +1,23 @@
-// A set: the lent lists with how much of them is used, and what that always is.
+// A set: the lent lists with how much of them is used, and what that always is. No Model: clauses speak of the
+// functions and of the lent lists, so its view would be the fields again.
 mod evaluate;
 mod load;
 mod open;
 
-ghost use Rattle.std.specs.Prelude.{◌≡◌, ◌≤◌, true, [], length, take};
-ghost use Rattle.numeric.specs.Lists.{every};
+ghost use Rattle.std.specs.Prelude.{◌≡◌, true, [], length};
+ghost use Rattle.std.specs.List.{list_all};
 ghost use Rattle.set.specs.View.{functions_in, placed};
 ghost use Rattle.set.specs.Steps.{admitted};
 
-use crate::memory::Memory;
-pub use evaluate::FULL_LIST;
+use crate::filled::Filled;
+use function::{Instruction, Record};
 
-// The first `count` records, `used` numbers and `laid` instructions are those of the loaded functions.
+// What is used of the three lists is that of the loaded functions, in their order.
 #[derive(Drop)]
 pub struct Set<'a> {
-    memory: Memory<'a>,
-    count: usize,
-    used: usize,
-    laid: usize,
-    ghost fits: { (count ≤ length memory.records.now) × (used ≤ length memory.numbers.now) × (laid ≤ length memory.instructions.now) },
-    ghost inside: { every (placed used) (take count memory.records.now) ≡ true },
-    ghost lawful: { admitted [] (functions_in (take count memory.records.now) (take used memory.numbers.now)) ≡ true },
+    records: Filled<'a, Record>,
+    numbers: Filled<'a, f32>,
+    instructions: Filled<'a, Instruction>,
+    ghost inside: { list_all (placed (length numbers.front)) records.front ≡ true },
+    ghost lawful: { admitted [] (functions_in records.front numbers.front) ≡ true },
 }

@@ -1,26 +1,35 @@
 // Evaluating a loaded function.
-ghost use Rattle.std.specs.Prelude.{◌≡◌, ◌<◌, ◌≤◌, length, take};
+ghost use Rattle.std.specs.Prelude.{◌≡◌, ◌≤◌, true, length, Some, IfOk, IfErr, slice_get};
+ghost use Rattle.fault.specs.Checks.{fault};
+ghost use Rattle.fault.specs.declared.cause.Cause.TheVariants.{NoFunction};
 ghost use Rattle.function.specs.Exponential.{stored};
-ghost use Rattle.function.specs.declared.record.Kind.TheVariants.{Exponential};
 ghost use Rattle.set.specs.State.{model_of, Fitting};
 ghost use Rattle.set.specs.Steps.{answer, reply_of, written};
-ghost use Rattle.set.specs.View.{function_at};
+ghost use Rattle.set.specs.View.{function_at, placed};
 
 use super::Set;
 use fault::{Cause, Fault, demand};
-use function::{Counts, Kind, Record, Type2};
+use function::{Counts, FULL_LIST, Kind, Record, Type2};
 use units::Arithmetic;
 
-// The least length of an output list.
-pub const FULL_LIST: usize = 64;
+impl Set<'_> {
+    // The record of the function at the index.
+    fn record(&self, index: usize) -> Result<Record, Fault>
+        ensures ok { IfOk result (λ r. slice_get self.now.records.front index ≡ Some r) }
+        ensures err { IfErr result (λ e. (length self.now.records.front ≤ index) × (e ≡ fault NoFunction index)) }
+    {
+        self.records
+            .as_slice()
+            .get(index)
+            .copied()
+            .ok_or(Fault::new(Cause::NoFunction, index))
+    }
 
-impl<'a> Set<'a> {
-    // The record of the function at the index, where it is called with its number of inputs and a full list.
+    // That record, where the function is called with its number of inputs and a full list.
     fn fitting(&self, index: usize, inputs: usize, room: usize) -> Result<Record, Fault>
         ensures { Fitting self.now index inputs room result }
     {
-        demand(index < self.count, Fault::new(Cause::NoFunction, index))?;
-        let record = self.memory.records[index];
+        let record = self.record(index)?;
         demand(
             inputs == (record.range - record.domain) / 2,
             Fault::new(Cause::InputCount, index),
@@ -30,27 +39,30 @@ impl<'a> Set<'a> {
     }
 
     // The parts of the number list that an exponential function has.
-    fn type2(&self, item: Record, c1: usize, n: usize) -> Type2<'_>
-        requires kind { item.kind ≡ Exponential c1 n }
-        requires rising { (item.domain ≤ item.range) × (item.range ≤ item.own) × (item.own ≤ c1) × (c1 ≤ n) × (n < self.now.used) }
-        ensures { stored result ≡ function_at (take self.now.used self.now.memory.numbers.now) item }
+    #[tactic(auto, using(crate::proofs::Reading::exponential_rising))]
+    fn type2(&self, item: Record) -> Type2<'_>
+        requires { placed (length self.now.numbers.front) item ≡ true }
+        ensures { stored result ≡ function_at self.now.numbers.front item }
     {
         let Record {
             domain,
             range,
             own,
+            kind: Kind::Exponential { c1, n },
             ..
         } = item;
+        let numbers = self.numbers.as_slice();
         Type2 {
-            domain: &self.memory.numbers[domain..range],
-            range: &self.memory.numbers[range..own],
-            c0: &self.memory.numbers[own..c1],
-            c1: &self.memory.numbers[c1..n],
-            n: self.memory.numbers[n],
+            domain: &numbers[domain..range],
+            range: &numbers[range..own],
+            c0: &numbers[own..c1],
+            c1: &numbers[c1..n],
+            n: numbers[n],
         }
     }
 
     // Writes the function's outputs for the inputs to the front of the output list, and answers the counts.
+    // The unit may change as it is asked, but not in what it means.
     pub fn evaluate<A: Arithmetic>(
         &self,
         unit: &mut A,
@@ -63,10 +75,6 @@ impl<'a> Set<'a> {
         ensures keeps { A.meaning unit.new ≡ A.meaning unit.old }
     {
         let record = self.fitting(index, inputs.len(), outputs.len())?;
-        match record.kind {
-            Kind::Exponential { c1, n } => Ok(
-                self.type2(record, c1, n).eval(unit, inputs, outputs),
-            ),
-        }
+        Ok(self.type2(record).eval(unit, inputs, outputs))
     }
 }

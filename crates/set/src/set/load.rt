@@ -1,36 +1,41 @@
-// Loading: all checks first, then the writes, and last the counters that make the function visible.
-ghost use Rattle.std.specs.Prelude.{◌≡◌, length};
+// Loading: all checks first, then the numbers, and last the record, which makes the function visible.
+ghost use Rattle.std.specs.Prelude.{◌≡◌, None};
 ghost use Rattle.fault.specs.Checks.{first_fault};
 ghost use Rattle.function.specs.Exponential.{exponential_of};
-ghost use Rattle.function.specs.Numbers.{judged, numbers_of};
 ghost use Rattle.set.specs.State.{model_of, Stored};
-ghost use Rattle.set.specs.Steps.{load_checks, load_step, has_room};
-ghost use Rattle.set.specs.Model.{entries};
+ghost use Rattle.set.specs.Steps.{function_checks, load_step, needs};
 
 use super::Set;
+use crate::entries::Entries;
+use crate::filled::Lay;
 use fault::{Cause, Fault, demand};
 use function::Exponential;
 
-impl<'a> Set<'a> {
-    // Whether one more record and so many numbers and instructions are free.
-    fn has_room(&self, numbers: usize, instructions: usize) -> bool
-        ensures { result ≡ has_room (entries 1 numbers instructions) (model_of self.now).free }
+impl Set<'_> {
+    // The entries that are free.
+    fn free(&self) -> Entries
+        ensures { result ≡ (model_of self.now).free }
     {
-        self.count < self.memory.records.len()
-            && numbers <= self.memory.numbers.len() - self.used
-            && instructions <= self.memory.instructions.len() - self.laid
+        Entries {
+            functions: self.records.free(),
+            numbers: self.numbers.free(),
+            instructions: self.instructions.free(),
+        }
     }
 
-    // The number entries that the function needs, or the fault for which it is not loaded.
-    fn judge_exponential(&self, given: &Exponential) -> Result<usize, Fault>
-        ensures { result ≡ judged (first_fault (load_checks (model_of self.now) (exponential_of given.now))) (length (numbers_of (exponential_of given.now))) }
+    // Loads a function that passed the checks of its kind behind the others, and answers its index.
+    fn load<G: Lay>(&mut self, given: &G, needed: Entries) -> Result<usize, Fault>
+        requires needed { needed ≡ needs (G.function given.now) }
+        requires checked { first_fault (function_checks (model_of self.old).functions (G.function given.now)) ≡ None }
+        ensures reply { result ≡ (load_step (G.function given.now) (model_of self.old)).reply }
+        ensures after { model_of self.new ≡ (load_step (G.function given.now) (model_of self.old)).after }
+        ensures lists { Stored (G.function given.now) self.old self.new result }
     {
-        let needed = given.check(self.count)?;
-        demand(
-            self.has_room(needed, 0),
-            Fault::new(Cause::Room, self.count),
-        )?;
-        Ok(needed)
+        let index = self.records.len();
+        demand(needed.fit_in(self.free()), Fault::new(Cause::Room, index))?;
+        let record = given.lay(&mut self.numbers);
+        self.records.push(record);
+        Ok(index)
     }
 
     // Loads an exponential function behind the others and answers its index.
@@ -39,12 +44,12 @@ impl<'a> Set<'a> {
         ensures after { model_of self.new ≡ (load_step (exponential_of given.now) (model_of self.old)).after }
         ensures lists { Stored (exponential_of given.now) self.old self.new result }
     {
-        let index = self.count;
-        let at = self.used;
-        let _ = self.judge_exponential(given)?;
-        let record = self.memory.lay_exponential(index, at, given);
-        self.count = index + 1;
-        self.used = record.end;
-        Ok(index)
+        let numbers = given.check(self.records.len())?;
+        let needed = Entries {
+            functions: 1,
+            numbers,
+            instructions: 0,
+        };
+        self.load(given, needed)
     }
 }

@@ -1,36 +1,19 @@
-use Rattle.std.proofs.Common.{◌∙◌}
+use Rattle.std.proofs.Common.{◌≡◌, Some, Err, ap, ◌∙◌}
 use Rattle.std.proofs.lemmas.Result.{err_from_is_err_and}
-use Rattle.function.specs.Exponential.{exponential_of}
-use Rattle.numeric.proofs.Appending.{laid_is}
-use Rattle.set.proofs.Loading.{refused, room, new_records, still, new_model, new_index}
+use Rattle.fault.specs.Checks.{first_fault}
+use Rattle.fault.specs.declared.cause.Fault.{Fault}
+use Rattle.function.specs.Exponential.{exponential_of, given_checks}
+use Rattle.function.proofs.Judging.{judged_err}
+use Rattle.set.specs.State.{model_of}
+use Rattle.set.proofs.Loading.{refused, load_step-refused}
+use Rattle.set.proofs.Reading.{length-functions_of}
 use Rattle.set.proofs.set.Set.load_exponential.Goals as goal
 
-pub returns-in_err-judge_exponential : goal.returns-in_err-judge_exponential
-returns-in_err-judge_exponential c =
-    let p = err_from_is_err_and c.from_residual.result c.from_residual.ensures.1 in
-    refused c.args.self.now (exponential_of c.args.given.now) c.from_residual.result _ _ _ p.1 p.2 c.in_err-judge_exponential.ensures
-
-pub lay_exponential-record-requires : goal.lay_exponential-record-requires
-lay_exponential-record-requires c =
-    let t = room c.args.self.now (exponential_of c.args.given.now) _ c.in_ok-judge_exponential.ensures in
-    record { index = t.0; numbers = t.1 }
-
-pub invariant_of-self : goal.invariant_of-self
-invariant_of-self c =
-    let e = c.lay_exponential-record.ensures in
-    let p = still c.args.self.now (exponential_of c.args.given.now) _ c.in_ok-judge_exponential.ensures c.lay_exponential-record.new.self c.lay_exponential-record.result e.value e.records e.numbers e.instructions in
-    record { fits = p.0; inside = p.1; lawful = p.2 }
-
-pub returns : goal.returns
-returns c =
+pub returns-in_err-numbers : goal.returns-in_err-numbers
+returns-in_err-numbers c =
     let s = c.args.self.now in
-    let f = exponential_of c.args.given.now in
-    let told = c.in_ok-judge_exponential.ensures in
-    let e = c.lay_exponential-record.ensures in
-    let m = c.lay_exponential-record.new.self in
-    let r = c.lay_exponential-record.result in
-    record {
-      reply = new_index s f _ told;
-      after = new_model s f _ told m r e.value e.records e.numbers e.instructions;
-      lists = record { records = new_records s f _ told m r e.value e.records e.numbers e.instructions; numbers = e.numbers ∙ laid_is _ _ _ (room s f _ told).1; instructions = e.instructions };
-    }
+    let given = c.args.given.now in
+    let e = c.in_err-numbers.field-0.0 in
+    let p = err_from_is_err_and c.from_residual.result c.from_residual.ensures.1 in
+    let failed : first_fault (given_checks c.len.result given) ≡ Some e = judged_err _ e _ c.in_err-numbers.ensures in
+    refused s (exponential_of given) _ e (load_step-refused (model_of s) (exponential_of given) e (rw (length-functions_of s, ← c.len.ensures) failed)) (p.1 ∙ ap (λ (d : Fault). Err d) p.2)

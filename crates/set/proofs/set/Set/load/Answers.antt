@@ -1,0 +1,51 @@
+use Rattle.std.proofs.Common.{[], arith, Err, sym, refl, ap, ◌∙◌}
+use Rattle.std.proofs.lemmas.Grind.{common_steps}
+use Rattle.std.proofs.lemmas.Result.{err_from_is_err_and}
+use Rattle.fault.specs.Checks.{fault}
+use Rattle.fault.specs.declared.cause.Cause.TheVariants.{Room}
+use Rattle.fault.specs.declared.cause.Fault.{Fault}
+use Rattle.fault.proofs.Passing.{none_passes}
+use Rattle.set.specs.State.{model_of}
+use Rattle.set.specs.Steps.{function_checks}
+use Rattle.set.proofs.Filling.{whole-appended, whole-appended_one}
+use Rattle.set.proofs.Growing.{functions_grown, placed_grown, grown_model}
+use Rattle.set.proofs.Loading.{refused, load_step-full, load_step-granted}
+use Rattle.set.proofs.Reading.{functions_of, length-functions_of, admitted_more}
+use Rattle.set.proofs.set.Set.load.Goals as goal
+
+pub returns-in_err-demand : goal.returns-in_err-demand
+returns-in_err-demand g c =
+    let s = c.args.self.now in
+    let f = g.G.Lay.function c.args.given.now in
+    let e = c.in_err-demand.ensures in
+    let p = err_from_is_err_and c.from_residual.result c.from_residual.ensures.1 in
+    let full = load_step-full (model_of s) f c.requires.checked _ _ c.requires.needed c.free.ensures (sym c.fit_in.ensures ∙ e.0) in
+    refused s f _ _ full (p.1 ∙ ap (λ (d : Fault). Err d) (p.2 ∙ e.1 ∙ c.new.ensures ∙ ap (fault Room) (c.len-index.ensures ∙ sym (length-functions_of s))))
+
+pub invariant_of-self : goal.invariant_of-self
+invariant_of-self g c =
+    let s = c.args.self.now in
+    let f = g.G.Lay.function c.args.given.now in
+    let e = c.lay-record.ensures in
+    rw (c.push.ensures, e.numbers, e.record) (record {
+      inside = placed_grown s.records.front s.numbers.front f s.inside;
+      lawful = rw (functions_grown s.records.front s.numbers.front f s.inside) (admitted_more [] (functions_of s) f s.lawful (none_passes (function_checks (functions_of s) f) c.requires.checked));
+    })
+
+pub returns-clause-after : goal.returns-clause-after
+returns-clause-after g c =
+    let s = c.args.self.now in
+    let f = g.G.Lay.function c.args.given.now in
+    let e = c.lay-record.ensures in
+    let granted = load_step-granted (model_of s) f c.requires.checked _ _ c.requires.needed c.free.ensures (sym c.fit_in.ensures ∙ c.in_ok-demand.ensures) in
+    rw (c.push.ensures, e.numbers, e.record) (grown_model s.records s.numbers s.instructions f s.inside ∙ sym (ap (λ d. d.after) granted))
+
+pub returns-clause-lists : goal.returns-clause-lists
+returns-clause-lists g c =
+    let s = c.args.self.now in
+    let e = c.lay-record.ensures in
+    record {
+      records = rw (c.push.ensures, e.record) (whole-appended_one s.records _ (grind (arith, common_steps)));
+      numbers = rw e.numbers (whole-appended s.numbers _);
+      instructions = refl;
+    }
