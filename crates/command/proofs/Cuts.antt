@@ -1,14 +1,16 @@
 -- What trimming blanks and looking for a word's end come to, by bytes. Assumes nothing.
-use Rattle.std.proofs.Common.{◌≡◌, ℕ, zero, suc, ◌<◌, ◌≤◌, Bool, true, false, eqb, ◌⊎◌, List, [], ◌∷◌, ◌++◌, length, get_or, take, drop, IfSome, Some, None, Option, sym, refl, ap, ◌∙◌, inl, inr, ⊎_elim, arith, length-take-le, get_or-take, true-eqb}
+use Rattle.std.proofs.Common.{◌≡◌, ℕ, zero, suc, ◌<◌, ◌≤◌, Bool, true, false, eqb, ◌⊎◌, List, [], ◌∷◌, ◌++◌, length, get_or, take, drop, IfSome, Some, None, Option, sym, refl, ap, ◌∙◌, ⊎_elim, arith, length-take-le, get_or-take, true-eqb}
 use borrow.Author.Tests.{clash}
 use lib.Utf8.{low_scalar}
 use Rattle.std.specs.Char.{char_set_contains, len_utf8}
 use Rattle.std.specs.Str.Pattern.{HasPassingCharAt, FindsPrefixBy, FindsCharPrefix, CutsPrefixes, IsTrimStartMatches}
-use Rattle.std.specs.Str.{NoCharPasses, NonePass}
+use Rattle.std.specs.Str.{NoCharPasses}
+use Rattle.std.proofs.lemmas.Str.{NoCharPasses-byte}
 use Rattle.std.proofs.lemmas.Str.Ascii.{encode_ascii}
-use Rattle.std.proofs.lemmas.Str.Pattern.{NoCharPasses-char, drop_at_char}
-use Rattle.std.proofs.lemmas.Bool.{eqb-true, ne_eqb, or_cases, or_parts, or_from, both_ways, cases_Bool}
+use Rattle.std.proofs.lemmas.Str.Pattern.{drop_at_char}
+use Rattle.std.proofs.lemmas.Bool.{ne_eqb, both_ways, cases_Bool}
 use Rattle.std.proofs.lemmas.Bool.Decides.{nat_tests}
+use Rattle.command.proofs.Shrinking.{Bare}
 use Rattle.command.specs.Cutting.{blank, ends, after_blanks, up_to, word_length, front, first_word, after_word}
 
 pub are_blanks : (c : ℕ) → char_set_contains (32 ∷ 9 ∷ []) c ≡ blank c
@@ -18,13 +20,13 @@ pub are_ends : (c : ℕ) → char_set_contains (32 ∷ 9 ∷ 59 ∷ []) c ≡ en
 are_ends c = grind (arith, nat_tests)
 
 blank_is : (c : ℕ) → blank c ≡ true → (c ≡ 32) ⊎ (c ≡ 9)
-blank_is c h = ⊎_elim (λ e. inl (eqb-true c 32 e)) (λ e. inr (eqb-true c 9 e)) (or_cases (eqb c 32) (eqb c 9) h)
+blank_is c h = grind (arith, nat_tests)
 
 blank_small : (c : ℕ) → blank c ≡ true → c < 128
-blank_small c h = ⊎_elim (λ e. omega arith) (λ e. omega arith) (blank_is c h)
+blank_small c h = grind (arith, nat_tests)
 
 ends_small : (c : ℕ) → ends c ≡ true → c < 128
-ends_small c h = ⊎_elim (λ e. blank_small c e) (λ e. omega (arith, eqb-true c 59 e)) (or_cases (blank c) (eqb c 59) h)
+ends_small c h = grind (arith, nat_tests)
 
 -- what `trim_start_matches` says of the blanks
 abbrev pub Begins : List ℕ → Option ℕ → Type 0
@@ -38,11 +40,6 @@ skipped s r (n ∷ ns) (m, p, b, e) =
     let whole : m ≡ c ∷ drop n m = drop_at_char c m 0 n found.2 (blank_small c found.1) in
     let here : after_blanks (c ∷ drop n m) ≡ after_blanks (drop n m) = rw found.1 refl in
     skipped s m ns p ∙ ap after_blanks whole ∙ here ∙ ap after_blanks (sym e)
-
--- no blank is left in front
-abbrev Bare : List ℕ → Type 0
-Bare [] = Unit {0}
-Bare (c ∷ cs) = blank c ≡ false
 
 bare : (r : List ℕ) (o : Option ℕ) → Begins r o → IfSome o (λ n. n ≡ 0) → Bare r
 bare [] o b z = tt
@@ -65,18 +62,12 @@ trimmed s r ((ns, p), (o, b, z)) =
     let left = bare r o b z in
     (sym (bare_stays r left) ∙ sym (skipped s r ns p), left)
 
-weaker : (p q : ℕ → Bool) → ((c : ℕ) → p c ≡ false → q c ≡ false) → (cs : List ℕ) → NonePass p cs → NonePass q cs
-weaker p q f [] h = tt
-weaker p q f (c ∷ cs) h = (f c h.0, weaker p q f cs h.1)
-
 -- a byte of a text in which no word ends
 inside : (bs : List ℕ) → NoCharPasses ends bs → (i : ℕ) → i < length bs → ends (get_or bs i 0) ≡ false
-inside bs (cs, e, h) i lt =
-    let b = get_or bs i 0 in
-    let not32 : eqb b 32 ≡ false = ne_eqb b 32 (NoCharPasses-char 32 bs i (cs, e, weaker ends (λ d. eqb d 32) (λ c k. (or_parts (eqb c 32) (eqb c 9) (or_parts (blank c) (eqb c 59) k).0).0) cs h) (omega arith) lt) in
-    let not9 : eqb b 9 ≡ false = ne_eqb b 9 (NoCharPasses-char 9 bs i (cs, e, weaker ends (λ d. eqb d 9) (λ c k. (or_parts (eqb c 32) (eqb c 9) (or_parts (blank c) (eqb c 59) k).0).1) cs h) (omega arith) lt) in
-    let not59 : eqb b 59 ≡ false = ne_eqb b 59 (NoCharPasses-char 59 bs i (cs, e, weaker ends (λ d. eqb d 59) (λ c k. (or_parts (blank c) (eqb c 59) k).1) cs h) (omega arith) lt) in
-    or_from (blank b) (eqb b 59) (or_from (eqb b 32) (eqb b 9) not32 not9) not59
+inside bs h i lt = ⊎_elim
+    (λ (is : ends (get_or bs i 0) ≡ true). NoCharPasses-byte ends bs i h lt (ends_small (get_or bs i 0) is))
+    (λ no. no)
+    (cases_Bool (ends (get_or bs i 0)))
 
 up_to_at : (s : List ℕ) (n : ℕ) → n ≤ length s → ((i : ℕ) → i < n → ends (get_or s i 0) ≡ false) → (n < length s → ends (get_or s n 0) ≡ true) → up_to s ≡ n
 up_to_at [] n h before here = omega arith
@@ -111,9 +102,8 @@ a_word s (c ∷ cs) w t h e p q =
     (ap Some p ∙ ap front is, q ∙ ap (λ bs. drop (word_length bs) bs) is)
 
 -- a word that is no `;` is as long as it goes
-pub long : (s : List ℕ) → blank (get_or s 0 32) ≡ false → FindsCharPrefix 59 s None → (word_length s ≡ up_to s) × (0 < up_to s)
+pub long : (s : List ℕ) → blank (get_or s 0 32) ≡ false → FindsCharPrefix 59 s None → word_length s ≡ up_to s
 long [] b none = absurd (both_ways true b refl)
 long (c ∷ cs) b none =
     let other : eqb c 59 ≡ false = ne_eqb c 59 (λ e. none cs (ap (λ (d : ℕ). d ∷ cs) e ∙ ap (λ bs. bs ++ cs) (sym (encode_ascii 59 (omega arith))))) in
-    let on : ends c ≡ false = or_from (blank c) (eqb c 59) b other in
-    (rw other refl, rw on (omega arith))
+    rw other refl

@@ -3,4 +3,4 @@ mod Listing
 mod Loading
 mod Naming
 mod Pairing
-mod Silence
+mod Shrinking

@@ -9,9 +9,6 @@ use Rattle.numerals.specs.Numbers.{ReadsNumber}
 pub record Keeps (start s : List ℕ) (old : List Float) : Type 0 where
   pub on : (xs : List Float) (t : List ℕ) → Numbers s xs t → Numbers start (old ++ xs) t
 
-pub list_start : (s : List ℕ) (old : List Float) → old ≡ [] → Keeps s s old
-list_start s old e = record { on = λ xs t h. subst (λ (ys : List Float). Numbers s (ys ++ xs) t) (sym e) h }
-
 pub list_more : {start : List ℕ} {s u w : List ℕ} {x : Float} {old new : List Float} → Keeps start s old → Some w ≡ field_word s → u ≡ followed (field_word s) s → ReadsNumber w (Some x) → new ≡ old ++ (x ∷ []) → Keeps start u new
 list_more {start} {s} {u} {w} {x} {old} {new} keeps h e r grown =
     record {

@@ -1,5 +1,6 @@
 -- The fields of a load line, read one by one. Assumes nothing.
-use Rattle.std.proofs.Common.{ℕ, List, IfOk, Some, None, Ok, Err, Result}
+use Rattle.std.proofs.Common.{ℕ, List, IfOk, Some, None, Result}
+use Rattle.std.proofs.lemmas.Result.{IfOk-weaker}
 use Rattle.command.specs.declared.exponential.Draft.{Draft}
 use Rattle.command.specs.declared.exponential.ExponentialLine.{ExponentialLine}
 use Rattle.command.specs.Cutting.{AtField}
@@ -9,15 +10,8 @@ use Rattle.command.specs.Loads.{Fields, no_more, one_more, Filled, Finished, Loa
 pub record Goes (start s : List ℕ) (d : Draft) : Type 0 where
   pub on : (e : Draft) (t : List ℕ) → Fields d e s t → Fields blank_draft e start t
 
-pub goes_start : (s : List ℕ) → Goes s s blank_draft
-goes_start s = record { on = λ e t h. h }
-
 pub goes_more : {start s u v name : List ℕ} {d e : Draft} → Goes start s d → AtField s (Some name) u → Filled name d e u v → Goes start v e
 goes_more g at f = record { on = λ e t h. g.on e t (one_more at f h) }
 
-pub made_then : {X E : Type 0} {P Q : X → Type 0} (r : Result X E) → ((x : X) → P x → Q x) → IfOk r P → IfOk r Q
-made_then (Ok x) f h = f x h
-made_then (Err e) f h = tt
-
 pub goes_end : {E : Type 0} {start s t : List ℕ} {d : Draft} (r : Result ExponentialLine E) → Goes start s d → AtField s None t → IfOk r (Finished d) → IfOk r (λ l. Loads l start t)
-goes_end r g at h = made_then r (λ l f. (_, g.on _ _ (no_more at), f)) h
+goes_end r g at h = IfOk-weaker r _ _ (λ l f. (_, g.on _ _ (no_more at), f)) h

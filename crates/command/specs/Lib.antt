@@ -3,3 +3,4 @@ pub mod Fields
 pub mod Left
 pub mod Lines
 pub mod Loads
+pub mod Misread

@@ -33,6 +33,12 @@ Known (Ask code x y) = (1 ≤ code) × (code ≤ 7)
 Known (Exponential line) = Unit {0}
 Known (Evaluate index room inputs) = Unit {0}
 
+-- c is the command of that name, and the words of s, up to what is left in t, say the rest of it
+pub record IsCommand (name s t : List ℕ) (c : Command) : Type 0 where
+  pub named : spelled c ≡ name
+  pub means : Means s t c
+  pub known : Known c
+
 abbrev pub KnownIfAny : Option Command → Type 0
 KnownIfAny None = Unit {0}
 KnownIfAny (Some c) = Known c

@@ -8,11 +8,11 @@ use Rattle.command.specs.Fields.{Numbers, Pairs, Alone}
 
 -- the field of that name, which was not there before, takes the draft from d to e
 pub data Filled (name : List ℕ) (d e : Draft) (s t : List ℕ) : Type 0 where
-  domain_field : (v : Vec (Float × Float) Global) → name ≡ codes "domain" → d.domain ≡ None → e ≡ record { domain = Some v; range = d.range; c0 = d.c0; c1 = d.c1; n = d.n } → Pairs s (vec_items v) t → Filled name d e s t
-  range_field : (v : Vec (Float × Float) Global) → name ≡ codes "range" → d.range ≡ None → e ≡ record { domain = d.domain; range = Some v; c0 = d.c0; c1 = d.c1; n = d.n } → Pairs s (vec_items v) t → Filled name d e s t
-  c0_field : (v : Vec Float Global) → name ≡ codes "c0" → d.c0 ≡ None → e ≡ record { domain = d.domain; range = d.range; c0 = Some v; c1 = d.c1; n = d.n } → Numbers s (vec_items v) t → Filled name d e s t
-  c1_field : (v : Vec Float Global) → name ≡ codes "c1" → d.c1 ≡ None → e ≡ record { domain = d.domain; range = d.range; c0 = d.c0; c1 = Some v; n = d.n } → Numbers s (vec_items v) t → Filled name d e s t
-  n_field : (x : Float) → name ≡ codes "n" → d.n ≡ None → e ≡ record { domain = d.domain; range = d.range; c0 = d.c0; c1 = d.c1; n = Some x } → Alone s x t → Filled name d e s t
+  domain_field : (v : Vec (Float × Float) Global) → name ≡ codes "domain" → d.domain ≡ None → e ≡ record d { domain = Some v } → Pairs s (vec_items v) t → Filled name d e s t
+  range_field : (v : Vec (Float × Float) Global) → name ≡ codes "range" → d.range ≡ None → e ≡ record d { range = Some v } → Pairs s (vec_items v) t → Filled name d e s t
+  c0_field : (v : Vec Float Global) → name ≡ codes "c0" → d.c0 ≡ None → e ≡ record d { c0 = Some v } → Numbers s (vec_items v) t → Filled name d e s t
+  c1_field : (v : Vec Float Global) → name ≡ codes "c1" → d.c1 ≡ None → e ≡ record d { c1 = Some v } → Numbers s (vec_items v) t → Filled name d e s t
+  n_field : (x : Float) → name ≡ codes "n" → d.n ≡ None → e ≡ record d { n = Some x } → Alone s x t → Filled name d e s t
 
 -- the fields up to the line's end take it from d to e
 pub data Fields : Draft → Draft → List ℕ → List ℕ → Type 0 where

@@ -1,13 +1,13 @@
 // The load line of an exponential function.
-ghost use Rattle.std.specs.Prelude.{◌≤◌, IfOk, OnOk};
-ghost use Rattle.command.specs.Left.{text, left};
-ghost use Rattle.command.specs.Loads.{Filled, Finished, Loads};
+ghost use Rattle.std.specs.Prelude.{◌≡◌, IfOk, Some, None, OnOk};
+ghost use Rattle.command.specs.Left.{text};
+ghost use Rattle.command.specs.Loads.{Filled, Finished, Loads, blank_draft};
 
-use crate::lists;
 use crate::misread::{LineError, Misread};
 use crate::words::Words;
 use std::alloc::Global;
 
+// Lists of its own, not the lent ones of function's Exponential: a line does not know the functions behind it.
 #[derive(Debug, Drop)]
 pub struct ExponentialLine {
     pub domain: Vec<(f32, f32)>,
@@ -17,8 +17,8 @@ pub struct ExponentialLine {
     pub n: f32,
 }
 
-// The fields so far.
-#[derive(Drop)]
+// The fields so far, each as an Option, so that none is taken twice.
+#[derive(Default, Drop)]
 struct Draft {
     domain: Option<Vec<(f32, f32)>>,
     range: Option<Vec<(f32, f32)>>,
@@ -27,63 +27,52 @@ struct Draft {
     n: Option<f32>,
 }
 
-fn read_field<'a>(
-    heap: Global,
-    draft: &mut Draft,
-    words: &mut Words<'a>,
-    name: &'a str,
-) -> Result<(), LineError<'a>>
-    ensures value { OnOk result (Filled name.now draft.old draft.new (text words.old) (text words.new)) }
-    ensures shorter { left words.new ≤ left words.old }
-{
-    match name {
-        "domain" => lists::put(&mut draft.domain, lists::pairs(heap, words, name)?, name),
-        "range" => lists::put(&mut draft.range, lists::pairs(heap, words, name)?, name),
-        "c0" => lists::put(&mut draft.c0, lists::floats(heap, words)?, name),
-        "c1" => lists::put(&mut draft.c1, lists::floats(heap, words)?, name),
-        "n" => lists::put(&mut draft.n, lists::one_float(words)?, name),
-        _ => Err(LineError::new(Misread::UnknownField, name)),
+impl Draft {
+    fn read_field<'a>(&mut self, words: &mut Words<'a>, name: &'a str) -> Result<(), LineError<'a>>
+        ensures { OnOk result (Filled name.now self.old self.new (text words.old) (text words.new)) }
+    {
+        match name {
+            "domain" => put(&mut self.domain, words.pairs(name)?, name),
+            "range" => put(&mut self.range, words.pairs(name)?, name),
+            "c0" => put(&mut self.c0, words.floats()?, name),
+            "c1" => put(&mut self.c1, words.floats()?, name),
+            "n" => put(&mut self.n, words.one_float()?, name),
+            _ => Err(LineError::new(Misread::UnknownField, name)),
+        }
+    }
+
+    fn finish(self, heap: Global) -> Result<ExponentialLine, LineError<'static>>
+        ensures { IfOk result (Finished self) }
+    {
+        let n = self.n.ok_or(LineError::new(Misread::FieldMissing, "n"))?;
+        Ok(ExponentialLine {
+            domain: self.domain.unwrap_or(Vec::new(heap)),
+            range: self.range.unwrap_or(Vec::new(heap)),
+            c0: self.c0,
+            c1: self.c1,
+            n,
+        })
     }
 }
 
-pub(crate) fn read<'a>(
-    heap: Global,
-    words: &mut Words<'a>,
-) -> Result<ExponentialLine, LineError<'a>>
-    ensures value { IfOk result (λ l. Loads l (text words.old) (text words.new)) }
-    ensures shorter { left words.new ≤ left words.old }
+pub(crate) fn read<'a>(words: &mut Words<'a>) -> Result<ExponentialLine, LineError<'a>>
+    ensures { IfOk result (λ l. Loads l (text words.old) (text words.new)) }
 {
-    let mut draft = Draft {
-        domain: None,
-        range: None,
-        c0: None,
-        c1: None,
-        n: None,
-    };
+    let mut draft = Draft::default();
+    // No `for`: it would hold the words, and each field reads its numbers from them.
     while let Some(name) = words.next_field() {
-        read_field(heap, &mut draft, words, name)?;
+        draft.read_field(words, name)?;
     }
-    finish(heap, draft)
+    draft.finish(words.heap())
 }
 
-fn finish(heap: Global, draft: Draft) -> Result<ExponentialLine, LineError<'static>>
-    ensures { IfOk result (Finished draft) }
+// Puts a field's value in its place, once.
+fn put<'a, T: Drop>(place: &mut Option<T>, value: T, name: &'a str) -> Result<(), LineError<'a>>
+    ensures { OnOk result ((place.old ≡ None) × (place.new ≡ Some value)) }
 {
-    let Draft {
-        domain,
-        range,
-        c0,
-        c1,
-        n,
-    } = draft;
-    let Some(n) = n else {
-        return Err(LineError::new(Misread::FieldMissing, "n"));
-    };
-    Ok(ExponentialLine {
-        domain: domain.unwrap_or(Vec::new(heap)),
-        range: range.unwrap_or(Vec::new(heap)),
-        c0,
-        c1,
-        n,
-    })
+    if place.is_some() {
+        return Err(LineError::new(Misread::FieldTwice, name));
+    }
+    *place = Some(value);
+    Ok(())
 }

@@ -3,7 +3,6 @@
 
 mod exponential;
 mod line;
-mod lists;
 mod misread;
 mod number;
 mod words;

@@ -1,6 +1,6 @@
 // Numbers read and written.
 use command::{Command, read_line};
-use numerals::{bits_text, number_text};
+use numerals::{Bits, Shown};
 use std::alloc::Global;
 use std::num::f32_from_bits_with_nan;
 use std::process::Abort;
@@ -12,69 +12,69 @@ fn bits_read(rt: &impl Abort, heap: Global, word: &str) -> Result<String, Fail> 
     match read_line(heap, line.as_str()) {
         Ok(Some(Command::Evaluate { inputs, .. })) => {
             assert!(rt; inputs.len() == 1);
-            Ok(bits_text(heap, inputs[0])?)
+            Ok(Bits(inputs[0]).to_string(heap)?)
         }
         _ => Ok(String::from_str(heap, "none")?),
     }
 }
 
-#[test]
-fn decimals_read(rt: HostRuntime) -> Result<(), Fail> {
-    for (word, bits) in [
-        ("0", "00000000"),
-        ("-0", "80000000"),
-        ("+1", "3f800000"),
-        ("1e5", "47c35000"),
-        ("1E+5", "47c35000"),
-        ("25e-2", "3e800000"),
-        (".5", "3f000000"),
-        ("5.", "40a00000"),
-        ("-.5e1", "c0a00000"),
-        ("0.1", "3dcccccd"),
-        ("16777217", "4b800000"),
-        ("3.4028235e38", "7f7fffff"),
-        ("3.4028236e38", "7f800000"),
-        ("1e39", "7f800000"),
-        ("1e-45", "00000001"),
-        ("1e-46", "00000000"),
-        ("NaN", "nan"),
-        ("nan", "nan"),
-        ("-NaN", "nan"),
-        ("inf", "7f800000"),
-        ("-inf", "ff800000"),
-        ("+Infinity", "7f800000"),
-    ] {
-        assert_eq!(rt;
-            bits_read(&rt, rt.alloc(), word)?.as_str(),
-            bits,
-            "{}",
-            word
-        );
+// Each word is read as the bits beside it. Not one with assert_told: over a closure that reads, the proof of the loop did not close.
+fn assert_read(rt: &impl Abort, heap: Global, words: &[(&str, &str)]) -> Result<(), Fail> {
+    for &(word, bits) in words {
+        assert_eq!(rt; bits_read(rt, heap, word)?.as_str(), bits, "{}", word);
     }
     Ok(())
 }
 
 #[test]
+fn decimals_read(rt: HostRuntime) -> Result<(), Fail> {
+    assert_read(
+        &rt,
+        rt.alloc(),
+        &[
+            ("0", "00000000"),
+            ("-0", "80000000"),
+            ("+1", "3f800000"),
+            ("1e5", "47c35000"),
+            ("1E+5", "47c35000"),
+            ("25e-2", "3e800000"),
+            (".5", "3f000000"),
+            ("5.", "40a00000"),
+            ("-.5e1", "c0a00000"),
+            ("0.1", "3dcccccd"),
+            ("16777217", "4b800000"),
+            ("3.4028235e38", "7f7fffff"),
+            ("3.4028236e38", "7f800000"),
+            ("1e39", "7f800000"),
+            ("1e-45", "00000001"),
+            ("1e-46", "00000000"),
+            ("NaN", "nan"),
+            ("nan", "nan"),
+            ("-NaN", "nan"),
+            ("inf", "7f800000"),
+            ("-inf", "ff800000"),
+            ("+Infinity", "7f800000"),
+        ],
+    )
+}
+
+#[test]
 fn bits_in_hex_read(rt: HostRuntime) -> Result<(), Fail> {
-    for (word, bits) in [
-        ("0x0", "00000000"),
-        ("0x3f800000", "3f800000"),
-        ("0x3F8ABCDE", "3f8abcde"),
-        ("0xff7fffff", "ff7fffff"),
-        ("0x1", "00000001"),
-        ("0x00000001", "00000001"),
-        ("0x7f800000", "7f800000"),
-        ("0x7f800001", "nan"),
-        ("0xffffffff", "nan"),
-    ] {
-        assert_eq!(rt;
-            bits_read(&rt, rt.alloc(), word)?.as_str(),
-            bits,
-            "{}",
-            word
-        );
-    }
-    Ok(())
+    assert_read(
+        &rt,
+        rt.alloc(),
+        &[
+            ("0x0", "00000000"),
+            ("0x3f800000", "3f800000"),
+            ("0x3F8ABCDE", "3f8abcde"),
+            ("0xff7fffff", "ff7fffff"),
+            ("0x1", "00000001"),
+            ("0x00000001", "00000001"),
+            ("0x7f800000", "7f800000"),
+            ("0x7f800001", "nan"),
+            ("0xffffffff", "nan"),
+        ],
+    )
 }
 
 #[test]
@@ -130,7 +130,7 @@ fn numbers_for_a_person(rt: HostRuntime) -> Result<(), Fail> {
             "0.000000000000000000000000000000000000000000001",
         ),
     ] {
-        let written = number_text(rt.alloc(), f32_from_bits_with_nan(bits))?;
+        let written = Shown(f32_from_bits_with_nan(bits)).to_string(rt.alloc())?;
         assert_eq!(rt; written.as_str(), text, "{}", text);
     }
     Ok(())

@@ -1,1 +1,1 @@
-mod Nibbles
+mod HexDigits

@@ -3,4 +3,4 @@
 
 mod number;
 
-pub use number::{bits_text, float, number_text};
+pub use number::{Bits, Shown, float};

@@ -1,18 +1,18 @@
 // Numbers as a job writes them, and as the record shows them.
-ghost use Rattle.std.specs.Prelude.{◌≡◌, ◌<◌, true, IfOk, string_bytes, codes, is_nan};
-ghost use Rattle.std.specs.Char.{digit_char};
-ghost use Rattle.numerals.specs.Numbers.{ReadsBits, ReadsNumber, hex_text, bits_text};
+ghost use Rattle.std.specs.Prelude.{◌≡◌, Some, None, is_nan, codes, if◌then◌else◌};
+ghost use Rattle.numerals.specs.Numbers.{ReadsBits, ReadsNumber, bits_text};
 
-use std::alloc::{AllocError, Global};
+use std::fmt;
 use std::num::{f32_from_bits_with_nan, f32_to_bits_with_nan};
 
 // A decimal as Rust reads it, or `0x` and the bits of the number in hex.
 pub fn float(word: &str) -> Option<f32>
     ensures { ReadsNumber word.now result }
 {
+    // A match: map_or_else would name the decimal before the hex.
     match word.strip_prefix("0x") {
         Some(digits) => from_hex(digits),
-        None => word.parse::<f32>().ok(),
+        None => word.parse().ok(),
     }
 }
 
@@ -23,50 +23,38 @@ fn from_hex(digits: &str) -> Option<f32>
     if digits.len() > 8 || digits.starts_with('+') {
         return None;
     }
-    match u32::from_str_radix(digits, 16) {
-        Ok(bits) => Some(f32_from_bits_with_nan(bits)),
-        Err(_) => None,
+    let bits = u32::from_str_radix(digits, 16).ok()?;
+    Some(f32_from_bits_with_nan(bits))
+}
+
+// A number that prints as the eight hex digits of its bits, or as `nan`.
+#[derive(Clone, Copy, Debug, PartialEq)]
+pub struct Bits(pub f32);
+
+impl fmt::Display for Bits {
+    ghost output = { λ b. Some (bits_text b.0) };
+
+    fn fmt<W: fmt::Write>(&self, f: &mut fmt::Formatter<W>) -> fmt::Result {
+        if self.0.is_nan() {
+            return f.write_str("nan");
+        }
+        let bits = f32_to_bits_with_nan(self.0);
+        write!(f, "{bits:08x}")
     }
 }
 
-// `nan`, or the eight hex digits of the bits.
-pub fn bits_text(heap: Global, x: f32) -> Result<String, AllocError>
-    ensures { IfOk result (λ s. string_bytes s ≡ bits_text x) }
-{
-    if x.is_nan() {
-        return String::from_str(heap, "nan");
-    }
-    hex(heap, f32_to_bits_with_nan(x))
-}
+// A number that prints for a person: as Rust shows it, but `nan`.
+#[derive(Clone, Copy, Debug, PartialEq)]
+pub struct Shown(pub f32);
 
-fn hex(heap: Global, bits: u32) -> Result<String, AllocError>
-    ensures { IfOk result (λ s. string_bytes s ≡ hex_text 8 bits) }
-{
-    let mut text = String::new(heap);
-    for i in 0..8u32 {
-        let digit = (bits >> (28 - 4 * i)) % 16;
-        text.push(hex_digit(digit))?;
-    }
-    Ok(text)
-}
+impl fmt::Display for Shown {
+    ghost output = { λ s. if is_nan s.0 then Some (codes "nan") else None };
 
-fn hex_digit(digit: u32) -> char
-    requires { digit < 16 }
-    ensures value { result ≡ digit_char digit }
-    ensures ascii { result < 128 }
-{
-    match char::from_digit(digit, 16) {
-        Some(c) => c,
-        None => unreachable(),
+    fn fmt<W: fmt::Write>(&self, f: &mut fmt::Formatter<W>) -> fmt::Result {
+        let number = self.0;
+        if number.is_nan() {
+            return f.write_str("nan");
+        }
+        write!(f, "{number}")
     }
-}
-
-// The number for a person: as Rust shows it, but `nan`.
-pub fn number_text(heap: Global, x: f32) -> Result<String, AllocError>
-    ensures { IfOk result (λ s. is_nan x ≡ true → string_bytes s ≡ codes "nan") }
-{
-    if !x.is_nan() {
-        return format!(in heap; "{x}");
-    }
-    String::from_str(heap, "nan")
 }

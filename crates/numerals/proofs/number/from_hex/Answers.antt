@@ -1,11 +1,13 @@
-use Rattle.std.proofs.Common.{◌≡◌, ℕ, ◌^◌, ◌<◌, ◌≤◌, false, List, length, get_or, None, sym, ap, ◌∙◌, subst, arith, ne_eqb}
+use Rattle.std.proofs.Common.{◌≡◌, ℕ, ◌^◌, ◌<◌, ◌≤◌, false, List, length, get_or, Option, None, Result, Ok, Err, MatchOption, sym, ap, ◌∙◌, subst, arith, ne_eqb}
 use native.Mathlib.Nat.{pow-le-pow_right}
-use lib.Ieee.{binary32, of_bits}
-use Rattle.std.specs.Str.Parse.{AllDigits, IsNumeral, without_leading_plus, digits_value}
+use Rattle.std.specs.Str.Parse.{AllDigits, IsNumeral, without_leading_plus, digits_value, ParsesUnsigned}
+use Rattle.std.specs.Result.{result_ok}
 use Rattle.std.specs.Str.Pattern.{FindsCharPrefix}
 use Rattle.std.proofs.lemmas.Int.Digits.{digits_value-lt}
 use Rattle.std.proofs.lemmas.Str.Pattern.{starts_char}
+use Rattle.numerals.specs.Numbers.{BitDigits}
 use Rattle.numerals.proofs.number.from_hex.Goals as goal
+use Rattle.numerals.proofs.number.from_hex.Goals.{After-from_str_radix}
 
 -- where no plus stands first, none is passed over
 plain : (bs : List ℕ) → FindsCharPrefix 43 bs None → without_leading_plus bs ≡ bs
@@ -17,14 +19,18 @@ plain bs h =
 short : (ds : List ℕ) → AllDigits 16 ds → length ds ≤ 8 → digits_value 16 ds < 4294967296
 short ds h le = let most : 16 ^ length ds ≤ 16 ^ 8 = pow-le-pow_right (omega arith) le in omega (arith, digits_value-lt 16 ds h)
 
-pub returns-in-Ok : goal.returns-in-Ok
-returns-in-Ok c =
-    let e = plain c.args.digits.now c.if-starts_with.ensures.cases in
-    let h = c.in-Ok.ensures.value in
-    let n : IsNumeral 16 c.args.digits.now = subst (IsNumeral 16) e h.0.0 in
-    ((n, omega arith), c.f32_from_bits_with_nan.ensures ∙ ap (of_bits binary32) (h.1 ∙ ap (digits_value 16) e))
+-- o is the number that the digits ds write
+abbrev Reads : List ℕ → Option ℕ → Type 0
+Reads ds o = MatchOption o (BitDigits ds → ⊥) (λ n. BitDigits ds × (n ≡ digits_value 16 ds))
 
-pub returns-in-Err : goal.returns-in-Err
-returns-in-Err c d =
-    let e = sym (plain c.args.digits.now c.if-starts_with.ensures.cases) in
-    c.in-Err.ensures.value (subst (IsNumeral 16) e d.0, subst (λ (bs : List ℕ). digits_value 16 bs < 4294967296) e (short _ d.0.1 d.1))
+read : {E : Type 0} (ds : List ℕ) (r : Result ℕ E) → without_leading_plus ds ≡ ds → length ds ≤ 8 → ParsesUnsigned 32 16 ds r → Reads ds (result_ok r)
+read ds (Ok n) e le h = ((subst (IsNumeral 16) e h.0.0, le), h.1 ∙ ap (digits_value 16) e)
+read ds (Err x) e le h = λ d. h (subst (IsNumeral 16) (sym e) d.0, subst (λ (bs : List ℕ). digits_value 16 bs < 4294967296) (sym e) (short ds d.0.1 d.1))
+
+-- what is read of the digits, whether or not they write a number
+told : (c : After-from_str_radix) → Reads c.args.digits.now (result_ok c.from_str_radix.result)
+told c = read _ _ (plain c.args.digits.now c.if-starts_with.ensures.cases) (omega arith) c.from_str_radix.ensures.value
+
+pub returns-in_err-bits : goal.returns-in_err-bits
+returns-in_err-bits c =
+    rw c.from_residual.ensures (subst (Reads c.args.digits.now) (sym c.in_err-bits.ensures.value) (told (goal.at.returns-in_err-bits c).After-from_str_radix))
