@@ -2,85 +2,84 @@
 use crate::replies::Reply;
 use command::{Command, ExponentialLine};
 use function::Exponential;
-use set::Set;
+use set::{Entries, Set, check_lengths};
 use std::alloc::{AllocError, Global};
 use units::{Arithmetic, Question};
 
 // The longest output list that is lent: a longer one would be answered alike.
 const MAX_ROOM: usize = 1024;
 
-// A call while no set is open.
-pub(crate) fn perform_without_set<A: Arithmetic>(unit: &mut A, command: &Command) -> Reply {
-    match command {
-        Command::House => Reply::Unit,
-        Command::Ask { code, x, y } => ask(unit, *code, *x, *y),
-        Command::Reset => Reply::Reset,
-        Command::Open { .. } => Reply::NoSet,
-        Command::Exponential(_) => Reply::NoSet,
-        Command::Evaluate { .. } => Reply::NoSet,
-    }
+// What the calls of a job go to: a unit, and the set that is open.
+#[derive(Drop)]
+pub(crate) struct Target<'a, A> {
+    pub(crate) unit: A,
+    pub(crate) set: Option<Set<'a>>,
 }
 
-// A call that goes to the open set, or needs none.
-pub(crate) fn perform<A: Arithmetic>(
-    heap: Global,
-    set: &mut Set,
-    unit: &mut A,
-    command: &Command,
-) -> Result<Reply, AllocError> {
-    match command {
-        Command::Exponential(line) => Ok(load(set, line)),
-        Command::Evaluate {
-            index,
-            room,
-            inputs,
-        } => evaluate(heap, set, unit, *index, *room, inputs),
-        _ => Ok(perform_without_set(unit, command)),
-    }
-}
-
-fn ask<A: Arithmetic>(unit: &mut A, code: u8, x: f32, y: f32) -> Reply {
-    match Question::from_code(code) {
-        Some(question) => Reply::Number(unit.answer(question, x, y)),
-        None => Reply::Number(f32::NAN),
-    }
-}
-
-fn load(set: &mut Set, line: &ExponentialLine) -> Reply {
-    let given = Exponential {
-        domain: &line.domain,
-        range: &line.range,
-        c0: slice_of(&line.c0),
-        c1: slice_of(&line.c1),
-        n: line.n,
-    };
-    match set.load_exponential(&given) {
-        Ok(index) => Reply::Loaded(index),
-        Err(fault) => Reply::Refused(fault),
-    }
-}
-
-fn slice_of(list: &Option<Vec<f32>>) -> Option<&[f32]> {
-    match list {
-        Some(items) => Some(items.as_slice()),
-        None => None,
-    }
-}
-
-fn evaluate<A: Arithmetic>(
-    heap: Global,
-    set: &Set,
-    unit: &mut A,
-    index: usize,
-    room: usize,
-    inputs: &[f32],
-) -> Result<Reply, AllocError> {
-    let mut outputs = vec![in heap; 0.0f32; room.min(MAX_ROOM)]?;
-    match set.evaluate(unit, index, inputs, &mut outputs) {
-        Ok(counts) => {
-            outputs.truncate(counts.outputs);
-            Ok(Reply::Outputs(counts, outputs))
+impl<'a, A: Arithmetic> Target<'a, A> {
+    pub(crate) fn perform(&mut self, heap: Global, command: &Command) -> Result<Reply, AllocError> {
+        match command {
+            Command::Reset => Ok(Reply::Reset),
+            Command::House => Ok(Reply::Unit),
+            Command::Open {
+                functions,
+                numbers,
+                instructions,
+            } => Ok(open(Entries {
+                functions: *functions,
+                numbers: *numbers,
+                instructions: *instructions,
+            })),
+            Command::Ask { code, x, y } => Ok(Reply::Number(self.ask(*code, *x, *y))),
+            Command::Exponential(line) => Ok(self.load(line)),
+            Command::Evaluate {
+                index,
+                room,
+                inputs,
+            } => self.evaluate(heap, *index, *room, inputs),
         }
-        Err(fault) => Ok(Reply::Refused(fault)),
     }
+
+    // The code of a line has a question; one that had none would have no answer either.
+    fn ask(&mut self, code: u8, x: f32, y: f32) -> f32 {
+        Question::try_from(code).map_or(f32::NAN, |question| self.unit.answer(question, x, y))
+    }
+
+    fn load(&mut self, line: &ExponentialLine) -> Reply {
+        let Some(set) = &mut self.set else {
+            return Reply::NoSet;
+        };
+        let given = Exponential {
+            domain: &line.domain,
+            range: &line.range,
+            c0: line.c0.as_deref(),
+            c1: line.c1.as_deref(),
+            n: line.n,
+        };
+        set.load_exponential(&given)
+            .map_or_else(Reply::Refused, Reply::Loaded)
+    }
+
+    fn evaluate(
+        &mut self,
+        heap: Global,
+        index: usize,
+        room: usize,
+        inputs: &[f32],
+    ) -> Result<Reply, AllocError> {
+        let Some(set) = &self.set else {
+            return Ok(Reply::NoSet);
+        };
+        let mut outputs = vec![in heap; 0.0f32; room.min(MAX_ROOM)]?;
+        let answer = set.evaluate(&mut self.unit, index, inputs, &mut outputs);
+        Ok(answer.map_or_else(Reply::Refused, |counts| {
+            outputs.truncate(counts.outputs);
+            Reply::Outputs(counts, outputs)
+        }))
+    }
+}
+
+// Whether a set can be opened over such lists. They are made only then, and a refusal leaves the earlier set.
+fn open(entries: Entries) -> Reply {
+    check_lengths(entries).map_or_else(Reply::Refused, |()| Reply::Opened(entries))
 }

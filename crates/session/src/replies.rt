@@ -1,15 +1,16 @@
 // The answer to a call, and its words in the record.
 use fault::Fault;
 use function::Counts;
-use numerals::{bits_text, number_text};
-use std::alloc::{AllocError, Global};
+use numerals::{Bits, Shown};
+use set::Entries;
+use std::fmt;
 
-#[derive(Drop)]
+#[derive(Debug, Drop)]
 pub(crate) enum Reply {
-    Opened,
+    Opened(Entries),
     Reset,
     Unit,
-    // a call that needs a set came before one was opened
+    // A call that needs a set came before one was opened.
     NoSet,
     Number(f32),
     Loaded(usize),
@@ -17,48 +18,56 @@ pub(crate) enum Reply {
     Refused(Fault),
 }
 
-impl Reply {
-    // Bits first, and in brackets what a person reads.
-    pub(crate) fn text(&self, heap: Global) -> Result<String, AllocError> {
+// Bits first, and in brackets what a person reads.
+impl fmt::Display for Reply {
+    fn fmt<W: fmt::Write>(&self, f: &mut fmt::Formatter<W>) -> fmt::Result {
         match self {
-            Reply::Opened => String::from_str(heap, "opened"),
-            Reply::Reset => String::from_str(heap, "reset"),
-            Reply::Unit => String::from_str(heap, "unit"),
-            Reply::NoSet => String::from_str(heap, "no set"),
-            Reply::Number(x) => number(heap, *x),
-            Reply::Loaded(index) => format!(in heap; "loaded {index}"),
-            Reply::Outputs(counts, values) => outputs(heap, *counts, values),
-            Reply::Refused(fault) => format!(in heap; "{fault}"),
+            Reply::Opened(_) => write!(f, "opened"),
+            Reply::Reset => write!(f, "reset"),
+            Reply::Unit => write!(f, "unit"),
+            Reply::NoSet => write!(f, "no set"),
+            Reply::Number(x) => write!(f, "answer {} ({})", Bits(*x), Shown(*x)),
+            Reply::Loaded(index) => write!(f, "loaded {index}"),
+            Reply::Outputs(counts, values) => {
+                let Counts {
+                    outputs,
+                    steps,
+                    drops,
+                } = *counts;
+                write!(f, "outputs {outputs} steps {steps} drops {drops} :")?;
+                write!(f, "{}{}", EachBits(values), EachShown(values))
+            }
+            Reply::Refused(fault) => write!(f, "{fault}"),
         }
     }
 }
 
-fn number(heap: Global, x: f32) -> Result<String, AllocError> {
-    let bits = bits_text(heap, x)?;
-    let shown = number_text(heap, x)?;
-    format!(in heap; "answer {bits} ({shown})")
+// The bits of each number, behind a space.
+#[derive(Clone, Copy)]
+struct EachBits<'a>(&'a [f32]);
+
+impl fmt::Display for EachBits<'_> {
+    fn fmt<W: fmt::Write>(&self, f: &mut fmt::Formatter<W>) -> fmt::Result {
+        for x in self.0 {
+            write!(f, " {}", Bits(*x))?;
+        }
+        Ok(())
+    }
 }
 
-fn outputs(heap: Global, counts: Counts, values: &[f32]) -> Result<String, AllocError> {
-    let Counts {
-        outputs,
-        steps,
-        drops,
-    } = counts;
-    let mut text = format!(in heap; "outputs {outputs} steps {steps} drops {drops} :")?;
-    if values.len() == 0 {
-        return Ok(text);
+// The numbers for a person, in brackets behind a space. Nothing where there is none.
+#[derive(Clone, Copy)]
+struct EachShown<'a>(&'a [f32]);
+
+impl fmt::Display for EachShown<'_> {
+    fn fmt<W: fmt::Write>(&self, f: &mut fmt::Formatter<W>) -> fmt::Result {
+        let Some((first, others)) = self.0.split_first() else {
+            return Ok(());
+        };
+        write!(f, " ({}", Shown(*first))?;
+        for x in others {
+            write!(f, " {}", Shown(*x))?;
+        }
+        write!(f, ")")
     }
-    for x in values {
-        text.push(' ')?;
-        text.push_str(bits_text(heap, *x)?.as_str())?;
-    }
-    let mut before = " (";
-    for x in values {
-        text.push_str(before)?;
-        text.push_str(number_text(heap, *x)?.as_str())?;
-        before = " ";
-    }
-    text.push(')')?;
-    Ok(text)
 }

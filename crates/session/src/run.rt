@@ -1,207 +1,157 @@
 // A whole job. A set borrows the lists that it is opened over, so each `open` begins a stretch of lines of its own.
-ghost use Rattle.std.specs.Prelude.{◌≡◌, ◌+◌, ◌-◌, ◌^◌, ◌<◌, length, IfOk};
+ghost use Rattle.std.specs.Prelude.{◌≡◌, ◌+◌, ◌^◌, ◌<◌, [], length, All, IfOk, None, string_bytes};
+ghost use Rattle.std.specs.Iterator.Adapters.{enumerate_count, enumerate_source};
+ghost use Rattle.std.specs.Slice.Iter.{iter_rest};
+ghost use Rattle.std.specs.Str.Lines.{lines};
+ghost use Rattle.session.specs.Jobs.{IsUnderstood, IsSilent};
 
-use crate::calls::{perform, perform_without_set};
+use crate::calls::Target;
 use crate::replies::Reply;
-use command::{Command, read_line};
-use function::{Instruction, Record as FunctionRecord};
-use set::{Memory, Set, check_lengths};
+use command::{Command, LineError, read_line};
+use function::Instruction;
+use set::{Entries, Set};
 use std::alloc::{AllocError, Global};
+use std::iter::Enumerate;
+use std::slice;
 use units::House;
 
 // What a job wrote, and what was wrong with the line that ended it.
-#[derive(Drop)]
+#[derive(Debug, Drop)]
 pub struct Record {
     pub text: String,
     pub error: Option<String>,
 }
 
-// The lengths of a set's lists.
-#[derive(Clone, Copy)]
-struct Sizes {
-    functions: usize,
-    numbers: usize,
-    instructions: usize,
+// Why a job ends before its last line.
+#[derive(Debug, Drop)]
+enum JobError<'a> {
+    Line { number: usize, error: LineError<'a> },
+    OutOfMemory(AllocError),
 }
 
-// The line to go on with, and the set that it finds open.
-#[derive(Clone, Copy)]
-struct Next {
-    at: usize,
-    sizes: Option<Sizes>,
+impl<'a> From<AllocError> for JobError<'a> {
+    fn from(error: AllocError) -> JobError<'a> {
+        JobError::OutOfMemory(error)
+    }
 }
 
-// A line of the job.
+// A job on its way: the lines that are left, and the record of those before. No Model: the contracts speak of both, and a
+// view of two parts would say `self.new.left` where they say `lines_left self.new`.
 #[derive(Drop)]
-enum Line {
-    Silent,
-    Wrong,
-    Opens(Sizes),
-    Call(Command),
+struct Job<'a> {
+    heap: Global,
+    lines: Enumerate<slice::Iter<'a, &'a str>>,
+    record: String,
+    ghost counted: { enumerate_count lines + length (iter_rest (enumerate_source lines)) < 2 ^ 64 },
 }
 
 // Runs the job to its end, or to the first line that is not understood.
-pub fn run_job(heap: Global, text: &str) -> Result<Record, AllocError> {
+pub fn run_job(heap: Global, text: &str) -> Result<Record, AllocError>
+    ensures understood { IfOk result (λ r. r.error ≡ None → All IsUnderstood (lines text.now)) }
+    ensures silent { All IsSilent (lines text.now) → IfOk result (λ r. (r.error ≡ None) × (string_bytes r.text ≡ [])) }
+{
+    // A list, since `run` asks how many lines are left: `lines` has no `len`.
     let lines: Vec<&str> = text.lines().collect(heap)?;
-    let mut record = Record {
-        text: String::new(heap),
-        error: None,
+    let mut job = Job {
+        heap,
+        lines: lines.iter().enumerate(),
+        record: String::new(heap),
     };
-    let mut next = Next { at: 0, sizes: None };
-    while next.at < lines.len() {
-        next = match next.sizes {
-            None => run_without_set(heap, &mut record, &lines, next.at)?,
-            Some(sizes) => run_with_set(heap, &mut record, &lines, next.at, sizes)?,
-        };
-    }
-    Ok(record)
+    let error = match job.run() {
+        Ok(()) => None,
+        Err(JobError::Line { number, error }) => Some(format!(in heap; "line {number}: {error}")?),
+        Err(JobError::OutOfMemory(error)) => return Err(error),
+    };
+    Ok(Record {
+        text: job.record,
+        error,
+    })
 }
 
-// Lines before any set is open, up to one that opens a set.
-fn run_without_set(
-    heap: Global,
-    record: &mut Record,
-    lines: &[&str],
-    from: usize,
-) -> Result<Next, AllocError>
-    requires { from < length lines.now }
-    ensures { IfOk result (λ n. from < n.at) }
-{
-    let mut unit = House;
-    for at in from..lines.len() {
-        match read(heap, record, lines[at], at + 1)? {
-            Line::Silent => {}
-            Line::Wrong => return Ok(end(lines)),
-            Line::Opens(sizes) => {
-                if opens(heap, record, lines[at], sizes)? {
-                    return Ok(go_on(at, Some(sizes)));
-                }
-            }
-            Line::Call(command) => {
-                let reply = perform_without_set(&mut unit, &command);
-                write(heap, record, lines[at], &reply)?;
-            }
+impl<'a> Job<'a> {
+    ghost use Rattle.std.specs.Prelude.{◌-◌, ◌≤◌, Ok, IsSome, IsNone, OnOk};
+    ghost use Rattle.session.specs.Jobs.{ReadsOn};
+    ghost use Rattle.session.specs.Left.{lines_left, PassesOver};
+
+    fn run(&mut self) -> Result<(), JobError<'a>>
+        ensures understood { OnOk result (All IsUnderstood (lines_left self.old)) }
+        ensures silent { All IsSilent (lines_left self.old) → (result ≡ Ok tt) × PassesOver self.old self.new }
+    {
+        let mut open = None;
+        while self.lines.len() > 0 {
+            open = match open {
+                Some(entries) => self.run_over_lists(entries)?,
+                None => self.run_stretch(&mut Target {
+                    unit: House,
+                    set: None,
+                })?,
+            };
         }
+        Ok(())
     }
-    Ok(end(lines))
-}
 
-// Lines over a set of these sizes, up to one that opens another or forgets it.
-fn run_with_set(
-    heap: Global,
-    record: &mut Record,
-    lines: &[&str],
-    from: usize,
-    sizes: Sizes,
-) -> Result<Next, AllocError>
-    requires { from < length lines.now }
-    ensures { IfOk result (λ n. from < n.at) }
-{
-    let mut records = vec![in heap; FunctionRecord::EMPTY; sizes.functions]?;
-    let mut numbers = vec![in heap; 0.0f32; sizes.numbers]?;
-    let mut instructions = vec![in heap; Instruction::EMPTY; sizes.instructions]?;
-    match Memory::open(&mut records, &mut numbers, &mut instructions) {
-        Ok(memory) => run_over(heap, record, lines, from, &mut Set::over(memory)),
-        // the lengths were checked by the line that opens; go on without a set
-        Err(_) => run_without_set(heap, record, lines, from),
+    // A stretch over a set with lists of these lengths.
+    fn run_over_lists(&mut self, entries: Entries) -> Result<Option<Entries>, JobError<'a>>
+        ensures shorter { OnOk result (length (lines_left self.new) ≤ length (lines_left self.old) - 1) }
+        ensures reads { OnOk result (ReadsOn (lines_left self.old) (lines_left self.new)) }
+    {
+        let mut records = vec![in self.heap; function::Record::EMPTY; entries.functions]?;
+        let mut numbers = vec![in self.heap; 0.0f32; entries.numbers]?;
+        let mut instructions = vec![in self.heap; Instruction::EMPTY; entries.instructions]?;
+        // None is refused: the line that opens has checked the lengths.
+        let set = Set::open(&mut records, &mut numbers, &mut instructions).ok();
+        self.run_stretch(&mut Target { unit: House, set })
     }
-}
 
-fn run_over(
-    heap: Global,
-    record: &mut Record,
-    lines: &[&str],
-    from: usize,
-    set: &mut Set,
-) -> Result<Next, AllocError>
-    requires { from < length lines.now }
-    ensures { IfOk result (λ n. from < n.at) }
-{
-    let mut unit = House;
-    for at in from..lines.len() {
-        match read(heap, record, lines[at], at + 1)? {
-            Line::Silent => {}
-            Line::Wrong => return Ok(end(lines)),
-            Line::Opens(sizes) => {
-                if opens(heap, record, lines[at], sizes)? {
-                    return Ok(go_on(at, Some(sizes)));
-                }
-            }
-            Line::Call(Command::Reset) => {
-                write(heap, record, lines[at], &Reply::Reset)?;
-                return Ok(go_on(at, None));
-            }
-            Line::Call(command) => {
-                let reply = perform(heap, set, &mut unit, &command)?;
-                write(heap, record, lines[at], &reply)?;
+    // Runs lines up to one that opens a set or forgets it, and answers what the lines behind it find open.
+    #[tactic(auto, using(crate::proofs::Reading::ReadsOn_further))]
+    fn run_stretch(&mut self, target: &mut Target<House>) -> Result<Option<Entries>, JobError<'a>>
+        ensures shorter { OnOk result (length (lines_left self.new) ≤ length (lines_left self.old) - 1) }
+        ensures reads { OnOk result (ReadsOn (lines_left self.old) (lines_left self.new)) }
+        ensures silent { All IsSilent (lines_left self.old) → (result ≡ Ok None) × PassesOver self.old self.new }
+    {
+        // No `for`: reading the next call can fail, and the lines behind the stretch are for the next one.
+        while let Some((line, command)) = self.next_call()? {
+            match self.call(target, line, command)? {
+                Reply::Opened(entries) => return Ok(Some(entries)),
+                Reply::Reset => return Ok(None),
+                _ => {}
             }
         }
+        Ok(None)
     }
-    Ok(end(lines))
-}
 
-// On with the line behind this one.
-fn go_on(at: usize, sizes: Option<Sizes>) -> Next
-    requires { at < 2 ^ 64 - 1 }
-    ensures { result.at ≡ at + 1 }
-{
-    Next { at: at + 1, sizes }
-}
-
-// Nothing is left to run.
-fn end(lines: &[&str]) -> Next
-    ensures { result.at ≡ length lines.now }
-{
-    Next {
-        at: lines.len(),
-        sizes: None,
-    }
-}
-
-// The call on a line. One that is not understood is the record's error.
-fn read(heap: Global, record: &mut Record, line: &str, number: usize) -> Result<Line, AllocError> {
-    match read_line(heap, line) {
-        Ok(
-            Some(
-                Command::Open {
-                    functions,
-                    numbers,
-                    instructions,
-                },
-            ),
-        ) => Ok(Line::Opens(Sizes {
-            functions,
-            numbers,
-            instructions,
-        })),
-        Ok(Some(command)) => Ok(Line::Call(command)),
-        Ok(None) => Ok(Line::Silent),
-        Err(error) => {
-            record.error = Some(format!(in heap; "line {number}: {error}")?);
-            Ok(Line::Wrong)
+    // The next line that says a call, and the call. Lines are counted from 1.
+    fn next_call(&mut self) -> Result<Option<(&'a str, Command)>, JobError<'a>>
+        ensures some { IfOk result (λ o. IsSome o → length (lines_left self.new) < length (lines_left self.old)) }
+        ensures none { IfOk result (λ o. IsNone o → lines_left self.new ≡ []) }
+        ensures reads { OnOk result (ReadsOn (lines_left self.old) (lines_left self.new)) }
+        ensures silent { All IsSilent (lines_left self.old) → (result ≡ Ok None) × PassesOver self.old self.new }
+    {
+        // No `for` over `by_ref`: its proof would carry along that `at + 1` fits, which the ghost field `counted` says here.
+        while let Some((at, line)) = self.lines.next() {
+            let command = read_line(self.heap, line).map_err(|error| JobError::Line {
+                number: at + 1,
+                error,
+            })?;
+            if let Some(command) = command {
+                return Ok(Some((line, command)));
+            }
         }
+        Ok(None)
     }
-}
 
-// Whether a set can be opened over lists of these lengths; a refusal leaves the earlier set.
-fn opens(heap: Global, record: &mut Record, line: &str, sizes: Sizes) -> Result<bool, AllocError> {
-    match check_lengths(sizes.functions, sizes.numbers, sizes.instructions) {
-        Ok(()) => {
-            write(heap, record, line, &Reply::Opened)?;
-            Ok(true)
-        }
-        Err(fault) => {
-            write(heap, record, line, &Reply::Refused(fault))?;
-            Ok(false)
-        }
+    // Makes a call, and writes its line and below it the reply.
+    fn call(
+        &mut self,
+        target: &mut Target<House>,
+        line: &'a str,
+        command: Command,
+    ) -> Result<Reply, AllocError>
+        ensures { self.new.lines ≡ self.old.lines }
+    {
+        let reply = target.perform(self.heap, &command)?;
+        writeln!(self.record, "{line}\n  {reply}")?;
+        Ok(reply)
     }
-}
-
-// The line, and below it the answer.
-fn write(heap: Global, record: &mut Record, line: &str, reply: &Reply) -> Result<(), AllocError> {
-    let answer = reply.text(heap)?;
-    record.text.push_str(line)?;
-    record.text.push_str("\n  ")?;
-    record.text.push_str(answer.as_str())?;
-    record.text.push('\n')
 }
