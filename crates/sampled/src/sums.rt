@@ -81,6 +81,7 @@ impl<S: Samples> Source<'_, S> {
     }
 }
 
+// The sums before any corner; the count is a number, whose bound no type carries.
 fn zeros(count: usize) -> ArrayVec<f32, MAX_OUTPUTS>
     requires { count ≤ 32 }
     ensures { result.items ≡ replicate count zero }

@@ -125,7 +125,7 @@ impl Stitched<'_> {
     }
 
     // Writes the parts, the Bounds and the Encode pairs into the list from `at` on, and says which place lies behind them.
-    // Where they do not all fit, nothing is written and the place is `at`.
+    // Where they do not all fit, nothing is written and the place is `at`: the contract fixes that answer.
     pub fn lay(&self, numbers: &mut [f32], at: usize) -> usize
         ensures { Lays numbers.old at (given_numbers self.now) numbers.new result }
     {
