@@ -32,6 +32,14 @@ module _ {A : Type 0} where
   over_fits (x ∷ xs) [] h = absurd (omega arith)
   over_fits (x ∷ xs) (y ∷ ys) h = ap (λ zs. x ∷ zs) (over_fits xs ys (omega arith))
 
+  -- it lies in the front alone
+  pub over_front : (new old : List A) (n : ℕ) → min (length new) (length old) ≤ n → over new (take n old) ++ drop n old ≡ over new old
+  over_front [] old n h = take-append-drop n old
+  over_front (x ∷ xs) [] zero h = refl
+  over_front (x ∷ xs) [] (suc n) h = refl
+  over_front (x ∷ xs) (y ∷ ys) zero h = absurd (omega arith)
+  over_front (x ∷ xs) (y ∷ ys) (suc n) h = ap (λ zs. x ∷ zs) (over_front xs ys n (omega arith))
+
   pub over_length : (new old : List A) → length (over new old) ≡ length old
   over_length [] old = refl
   over_length (x ∷ xs) [] = refl

@@ -1,6 +1,7 @@
 -- Pairs and the numbers that they lie in. Assumes nothing.
-use Rattle.std.proofs.Common.{◌≡◌, ℕ, zero, suc, ◌-◌, ◌*◌, ◌/◌, List, [], ◌∷◌, map, length, get_or, sym, refl, ap, ◌∙◌, subst, arith}
-use Rattle.std.proofs.lemmas.Option.{slice_get-map}
+use Rattle.std.proofs.Common.{◌≡◌, ℕ, zero, suc, ◌-◌, ◌*◌, ◌/◌, ◌<◌, Some, List, [], ◌∷◌, map, length, get_or, sym, refl, ap, ◌∙◌, subst, arith}
+use Rattle.std.proofs.lemmas.Option.{slice_get-get_or, slice_get-map}
+use Rattle.std.proofs.lemmas.List.{length-map}
 use Rattle.std.specs.List.{slice_get}
 use Rattle.std.specs.Option.{option_map}
 use Rattle.std.specs.Simd.{first_chunks}
@@ -37,6 +38,12 @@ pair_of_chunk xs cs i e =
     ap (λ (ps : List Interval). slice_get ps i) (sym (pairs_chunks (length xs / 2) xs refl))
     ∙ ap (λ (ds : List (List Float)). slice_get (map chunk_pair ds) i) (sym e)
     ∙ slice_get-map chunk_pair cs i
+
+pub pair_in_chunks : (xs : List Float) (cs : List (List Float)) (i : ℕ) (d : List Float) → cs ≡ first_chunks 2 (length xs / 2) xs → i < length cs → slice_get (pairs_of xs) i ≡ Some (chunk_pair (get_or cs i d))
+pair_in_chunks xs cs i d e h = pair_of_chunk xs cs i e ∙ ap (option_map chunk_pair) (slice_get-get_or cs i d h)
+
+pub chunks_count : (xs : List Float) (cs : List (List Float)) → cs ≡ first_chunks 2 (length xs / 2) xs → length cs ≡ length (pairs_of xs)
+chunks_count xs cs e = ap length e ∙ sym (length-map (first_chunks 2 (length xs / 2) xs) chunk_pair) ∙ ap length (pairs_chunks (length xs / 2) xs refl)
 
 -- 2 * n numbers are n pairs
 pub length_pairs : (xs : List Float) (n : ℕ) → length xs ≡ 2 * n → length (pairs_of xs) ≡ n

@@ -1,7 +1,8 @@
 -- Numbers written into a longer list. Assumes nothing.
 use Rattle.std.proofs.Common.{◌≡◌, ℕ, ◌+◌, ◌-◌, ◌*◌, ◌<◌, ◌≤◌, Bool, true, false, ◌&&◌, leb, List, [], ◌∷◌, ◌++◌, map, length, get_or, take, drop, set, sym, refl, ap, ◌∙◌, subst, arith}
 use lib.Ieee.{Float}
-use Rattle.std.proofs.lemmas.List.{append_assoc, take-append-drop, drop-drop, set_at, drop_more, take_more, take_all, length-append, length-take-le, take_at, drop_at, append-nil, length-set, length-drop, map-id}
+use borrow.Rule.Slice.PartMut.{put_mid}
+use Rattle.std.proofs.lemmas.List.{append_assoc, take-append-drop, drop-drop, set_at, drop_more, drop_all, take_more, take_all, length-append, length-take-le, take_at, drop_at, append-nil, length-set, length-drop, map-id}
 use Rattle.std.proofs.lemmas.Bool.{both_ways, leb-true, and_parts, le-leb, and_from, cond-true, cond-false}
 use Rattle.std.proofs.lemmas.List.Concat.{flat_map-append, flat_map_single}
 use Rattle.std.proofs.Math.Nat.{mul-le-mul_right}
@@ -75,6 +76,18 @@ written_two {A} list at x y h =
     ∙ ap (λ (zs : List A). written zs (at + 1) (y ∷ [])) (written_one list at x (omega arith))
     ∙ written_more list at (x ∷ []) (y ∷ []) (omega arith)
 
+-- after a write of xs to the part of the list that begins at `at` and is as long as they are
+pub mid_written : {A : Type 0} (list : List A) (at k : ℕ) (xs ys : List A) → k ≡ length xs → ys ≡ xs → put_mid at k list ys ≡ written list at xs
+mid_written {A} list at k xs ys e q =
+    ap (λ (zs : List A). take at list ++ (zs ++ drop k (drop at list))) q ∙ ap (λ (zs : List A). take at list ++ (xs ++ zs)) (drop-drop k at list ∙ ap (λ (n : ℕ). drop n list) (omega arith))
+
+-- and after laying them there
+pub part_laid : {A : Type 0} (list : List A) (at k : ℕ) (xs ys : List A) (r : ℕ) → k ≡ length xs → at + k ≤ length list → Lays (take k (drop at list)) 0 xs ys r → put_mid at k list ys ≡ written list at xs
+part_laid {A} list at k xs ys r e h l =
+    let part = take k (drop at list) in
+    let long : length part ≡ k = length-take-le k (drop at list) (omega (arith, length-drop at list)) in
+    mid_written list at k xs ys e ((l.whole (fits_from part 0 xs (omega arith) (omega arith))).1 ∙ ap (λ (zs : List A). xs ++ zs) (drop_all (0 + length xs) part (omega arith)) ∙ append-nil xs)
+
 -- k numbers for each item: a loop that lays them has come to the item i, and to the place `end` of the list
 module _ {X : Type 0} (list : List Float) (at k : ℕ) (xs : List X) where
   -- `r` says whether they fit
@@ -137,10 +150,16 @@ module _ {X : Type 0} {list : List Float} {at : ℕ} {new : List Float} {r : ℕ
       flat_each [] = refl
       flat_each (x ∷ xs) = ap (λ (ys : List Float). (g x).0 ∷ (g x).1 ∷ ys) (flat_each xs)
 
+flat_ones : (xs : List Float) → flat_map (λ x. x ∷ []) xs ≡ xs
+flat_ones xs = flat_map_single (λ x. x) xs ∙ map-id xs
+
 -- where the items are numbers themselves, or pairs
 module _ {list : List Float} {at : ℕ} {new : List Float} {r : ℕ} where
   pub lays_all : (xs : List Float) → Lays list at (flat_map (λ x. x ∷ []) xs) new r → Lays list at xs new r
-  lays_all xs l = subst (λ ys. Lays list at ys new r) (map-id xs) (lays_numbers xs (λ x. x) l)
+  lays_all xs l = subst (λ ys. Lays list at ys new r) (flat_ones xs) l
+
+  pub lays_ones : (xs : List Float) → Lays list at xs new r → Lays list at (flat_map (λ x. x ∷ []) xs) new r
+  lays_ones xs l = subst (λ ys. Lays list at ys new r) (sym (flat_ones xs)) l
 
   pub lays_flat : (ps : List Interval) → Lays list at (flat_map (λ p. p.0 ∷ p.1 ∷ []) ps) new r → Lays list at (flat ps) new r
   lays_flat ps l = subst (λ qs. Lays list at (flat qs) new r) (map-id ps) (lays_pairs ps (λ p. p) l)

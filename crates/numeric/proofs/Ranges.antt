@@ -1,5 +1,5 @@
 -- Clamping a list to a list of pairs. Assumes nothing.
-use Rattle.std.proofs.Common.{◌≡◌, ℕ, zero, suc, ◌+◌, ◌<◌, ◌≤◌, true, List, [], ◌∷◌, Option, None, Some, ◌++◌, length, get_or, take, drop, set, sym, refl, ap, ◌∙◌, subst, arith}
+use Rattle.std.proofs.Common.{◌≡◌, ℕ, zero, suc, ◌+◌, ◌<◌, ◌≤◌, min, true, List, [], ◌∷◌, Option, None, Some, ◌++◌, length, get_or, take, drop, set, sym, refl, ap, ◌∙◌, subst, arith}
 use lib.Ieee.{Float, nan}
 use Rattle.std.proofs.lemmas.List.{append_assoc, take-append-drop, take_more_set, drop-set-lt, drop_more, drop_all}
 use Rattle.std.specs.List.{slice_get}
@@ -62,3 +62,11 @@ pub clamped_all : (ps : List Interval) (outputs new : List Float) (i : ℕ) → 
 clamped_all ps outputs new i h inv =
     let none = drop_all i new h in
     sym (inv ∙ ap (λ (vs : List Float). take i new ++ vs) (ap (clamp_all (drop i ps)) none ∙ clamp_all_none (drop i ps) ∙ sym none) ∙ take-append-drop i new)
+
+-- behind the last pair nothing changes
+pub clamped_front : (ps : List Interval) (vs : List Float) (n : ℕ) → min (length ps) (length vs) ≤ n → clamp_all ps (take n vs) ++ drop n vs ≡ clamp_all ps vs
+clamped_front [] vs n h = take-append-drop n vs
+clamped_front (p ∷ ps) [] zero h = refl
+clamped_front (p ∷ ps) [] (suc n) h = refl
+clamped_front (p ∷ ps) (v ∷ vs) zero h = absurd (omega arith)
+clamped_front (p ∷ ps) (v ∷ vs) (suc n) h = ap (λ (xs : List Float). clamp p v ∷ xs) (clamped_front ps vs n (omega arith))

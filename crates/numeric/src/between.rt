@@ -4,7 +4,6 @@ ghost use Rattle.numeric.specs.Interval.{ordered, within, clamp_all};
 ghost use Rattle.numeric.specs.Interval.{clamp, interpolate};
 ghost use Rattle.numeric.specs.Lists.{pairs_of};
 
-use crate::lists::pair_at;
 use crate::pair::Pair;
 
 // Clamps v by the pair; two numbers that make no Pair clamp nothing.
@@ -20,11 +19,14 @@ pub fn clamp(pair: (f32, f32), v: f32) -> f32
 pub fn clamp_output(range: &[f32], outputs: &mut [f32])
     ensures { outputs.new ≡ clamp_all (pairs_of range.now) outputs.old }
 {
+    // No further than the pairs go, however long the list is.
+    let (pairs, _) = range.as_chunks::<2>();
+    let end = pairs.len().min(outputs.len());
+    let front = &mut outputs[..end];
     // The pairs by index: what is written through a zipped iter_mut is lost to the proof.
-    for (i, output) in outputs.iter_mut().enumerate() {
-        if let Some(pair) = pair_at(range, i) {
-            *output = clamp(pair, *output);
-        }
+    for (i, output) in front.iter_mut().enumerate() {
+        let [low, high] = pairs[i];
+        *output = clamp((low, high), *output);
     }
 }
 

@@ -52,7 +52,10 @@ pub fn put_each<T: Copy, P: Numbers, F: Fn(T) -> P>(
     }
     let mut end = at;
     for item in items {
-        end = make(*item).put_at(list, end);
+        // The place of the item alone: there put_at's own test is settled when this is compiled.
+        let next = end + P::COUNT;
+        make(*item).put_at(&mut list[end..next], 0);
+        end = next;
     }
     end
 }
@@ -70,5 +73,5 @@ pub(crate) fn has_room(len: usize, at: usize, items: usize, each: usize) -> bool
 pub fn put<P: Numbers>(list: &mut [f32], at: usize, items: &[P]) -> usize
     ensures { Lays list.old at (flat_map P.numbers items.now) list.new result }
 {
-    put_each(list, at, items, |item| item)
+    P::put_all(list, at, items)
 }

@@ -1,6 +1,7 @@
 // What lies in a list of numbers as one or more of them.
 ghost use Rattle.std.specs.Prelude.{◌≡◌, ℕ, Bool, List, [], ◌∷◌, length, Float, refl};
 ghost use Rattle.std.specs.Float.{float_is_finite};
+ghost use Rattle.std.specs.List.{flat_map};
 ghost use Rattle.numeric.specs.Interval.{both_finite};
 ghost use Rattle.numeric.specs.Lists.{Lays};
 
@@ -23,6 +24,23 @@ pub trait Numbers: Copy {
     // is written and the place is `at`.
     fn put_at(self, list: &mut [f32], at: usize) -> usize
         ensures { Lays list.old at (numbers self) list.new result };
+
+    // Writes the numbers of each item from `at` on, likewise: `put` is this. A loop as in put_each, for a type to replace
+    // by one copy where its items lie as the numbers do.
+    fn put_all(list: &mut [f32], at: usize, items: &[Self]) -> usize
+        ensures { Lays list.old at (flat_map numbers items.now) list.new result }
+    {
+        if !has_room(list.len(), at, items.len(), Self::COUNT) {
+            return at;
+        }
+        let mut end = at;
+        for item in items {
+            let next = end + Self::COUNT;
+            item.put_at(&mut list[end..next], 0);
+            end = next;
+        }
+        end
+    }
 
     ghost counted: { (x : Self) → length (numbers x) ≡ COUNT };
 }
@@ -48,6 +66,15 @@ impl Numbers for f32 {
         }
         list[at] = self;
         at + 1
+    }
+
+    fn put_all(list: &mut [f32], at: usize, items: &[f32]) -> usize {
+        if !has_room(list.len(), at, items.len(), Self::COUNT) {
+            return at;
+        }
+        let end = at + items.len();
+        list[at..end].copy_from_slice(items);
+        end
     }
 }
 

@@ -4,4 +4,4 @@ use Rattle.numeric.proofs.between.clamp_output.Given as goal
 
 -- the outputs so far are clamped, and what is left gives the rest
 abbrev pub invariant-loop-i : goal.invariant-loop-i
-invariant-loop-i l = ClampedTo (pairs_of l.range) l.initial.outputs l.outputs l.i
+invariant-loop-i l = ClampedTo (pairs_of l.range) l.initial.front l.front l.i

@@ -1,6 +1,5 @@
 use Rattle.std.proofs.Common.{ap, arith}
-use Rattle.numeric.proofs.Laying.{room_each, room_next, each_none, each_more, each_all}
-use Rattle.numeric.proofs.Appending.{fits_sum}
+use Rattle.numeric.proofs.Laying.{part_laid, room_each, room_next, each_none, each_more, each_all}
 use Rattle.numeric.proofs.lists.put_each.Goals as goal
 
 pub returns-then-not-has_room : goal.returns-then-not-has_room
@@ -11,9 +10,9 @@ loop-item-preserved g c =
     let room = room_each c.args.list.now c.args.at _ c.args.items.now _ _ (c.COUNT.ensures, c.has_room.ensures) c.if-not-has_room.false in
     let next = room_next c.args.list.now c.args.at _ c.args.items.now _ _ room c.loop-item-test.true c.loop-item.invariant.0 in
     let long = g.met.P.Numbers.counted c.make.result in
-    let laid = c.put_at-end.ensures.whole (fits_sum c.loop-item.list c.loop-item.end (g.P.Numbers.numbers c.make.result) (omega (arith, c.loop-item.auto.list, long, next))) in (
-      grind (arith, long, laid.0, c.loop-item.invariant.0),
-      λ f made. each_more c.args.list.now c.args.at _ c.args.items.now _ (λ x. g.met.P.Numbers.counted (f x)) c.loop-item.item-index _ _ _ _ _ c.loop-item-test.true c.item-item.is c.loop-item.invariant.0 room (c.loop-item.invariant.1 f made) laid.1
+    let laid = part_laid c.loop-item.list c.loop-item.end _ _ _ _ (omega (arith, c.COUNT-in-loop-item.ensures, long)) (omega (arith, c.loop-item.auto.list, c.COUNT-in-loop-item.ensures, next)) c.put_at.ensures in (
+      grind (arith, c.COUNT-in-loop-item.ensures, c.loop-item.invariant.0),
+      λ f made. each_more c.args.list.now c.args.at _ c.args.items.now _ (λ x. g.met.P.Numbers.counted (f x)) c.loop-item.item-index _ _ _ _ _ c.loop-item-test.true c.item-item.is c.loop-item.invariant.0 room (c.loop-item.invariant.1 f made) laid
           (ap g.P.Numbers.numbers (made _ _ c.make.ensures)),
     )
 
