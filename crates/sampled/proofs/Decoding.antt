@@ -1,5 +1,5 @@
 -- Laws of the decoded sums. Assumes nothing.
-use Rattle.std.proofs.Common.{◌≡◌, ℕ, zero, suc, ◌+◌, ◌<◌, ◌≤◌, ◌⊎◌, inl, inr, List, [], ◌∷◌, length, get_or, take, set, Option, Some, None, sym, refl, ap, ◌∙◌, arith}
+use Rattle.std.proofs.Common.{◌≡◌, ℕ, zero, suc, ◌+◌, ◌<◌, ◌≤◌, min, ◌⊎◌, inl, inr, List, [], ◌∷◌, length, get_or, take, set, Option, Some, None, sym, refl, ap, ◌∙◌, arith}
 use lib.Ieee.{Float, nan}
 use Rattle.std.specs.List.{slice_get}
 use Rattle.std.proofs.lemmas.List.{take_all, set-get_or}
@@ -15,6 +15,12 @@ pub decoded_length : (top : Float) (ds : List Interval) (ys : List Float) → le
 decoded_length top [] ys e = refl
 decoded_length top (d ∷ ds) [] e = omega arith
 decoded_length top (d ∷ ds) (y ∷ ys) e = ap suc (decoded_length top ds ys (omega arith))
+
+-- no more than there are Decode pairs, or sums
+pub decoded_short : (top : Float) (ds : List Interval) (ys : List Float) → length (decoded top ds ys) ≤ min (length ds) (length ys)
+decoded_short top [] ys = omega arith
+decoded_short top (d ∷ ds) [] = omega arith
+decoded_short top (d ∷ ds) (y ∷ ys) = omega (arith, decoded_short top ds ys)
 
 decoded_at : (top : Float) (ds : List Interval) (ys : List Float) (i : ℕ) (d : Interval) (y : Float) → Some d ≡ slice_get ds i → Some y ≡ slice_get ys i
     → (i < length (decoded top ds ys)) × (interpolate y (sampled.zero, top) d ≡ get_or (decoded top ds ys) i nan)

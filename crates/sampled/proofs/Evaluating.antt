@@ -1,7 +1,8 @@
 -- Laws of evaluating: the answer, from the grid and the sums. Assumes nothing.
-use Rattle.std.proofs.Common.{◌≡◌, ℕ, ◌+◌, true, List, length, take, replicate, Ok, Result, sym, ap, ◌∙◌}
+use Rattle.std.proofs.Common.{◌≡◌, ℕ, ◌+◌, true, List, ◌++◌, length, take, replicate, Ok, Result, sym, ap, ◌∙◌, arith}
 use lib.Ieee.{Float}
-use Rattle.std.proofs.lemmas.List.{length-replicate}
+use Rattle.std.specs.List.{refill}
+use Rattle.std.proofs.lemmas.List.{append-nil, drop_all, length-replicate, take_all}
 use Rattle.std.proofs.lemmas.Bool.{cond-true}
 use Rattle.fault.specs.declared.cause.Fault.{Fault}
 use Rattle.numeric.specs.Interval.{Interval, clamp_all}
@@ -19,6 +20,13 @@ use Rattle.sampled.specs.Sampled as sampled
 use Rattle.sampled.specs.Sampled.{evaluable_by, corners_at, add_corners, top_of, decoded, sampled_by, ranged, loaded_answer, outputs_after}
 use Rattle.sampled.proofs.Adding.{add_corners_length}
 use Rattle.sampled.proofs.Decoding.{decoded_length}
+
+-- what was written in place of all elements of a list
+pub refilled : (xs ws : List Float) → length ws ≡ length xs → refill (length xs) xs ws ≡ ws
+refilled xs ws e =
+    ap (λ (zs : List Float). take (length xs) (ws ++ zs)) (drop_all (length ws) xs (omega arith))
+    ∙ ap (take (length xs)) (append-nil ws)
+    ∙ take_all (length xs) ws (omega arith)
 
 module _ (tables : List Table) (index : ℕ) (t : Type0) (xs : List Float) (ds : List Dimension) (n : ℕ) (h : evaluable_by t (length xs) ≡ true) (p : GridOf t ds n) where
   abbrev top : Float

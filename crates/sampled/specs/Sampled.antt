@@ -4,7 +4,6 @@ use Rattle.std.specs.Prelude.{◌≡◌, ℕ, suc, ◌+◌, ◌-◌, ◌*◌, �
 use Rattle.std.specs.Float.{binary32}
 use Rattle.std.specs.Float.Ieee.{add, sub, mul, lt, eq}
 use Rattle.std.specs.List.{AllByRecursion}
-use Rattle.arrayvec.specs.ArrayVec.{ArrayVec}
 use Rattle.fault.specs.Checks.{Check, check, fault}
 use Rattle.fault.specs.declared.cause.Cause.TheVariants.{Count, NotFinite, UpsideDown, CountsDisagree, Size, NoTable, NoSample}
 use Rattle.fault.specs.declared.cause.Fault.{Fault}
@@ -237,7 +236,7 @@ OwnSizes t inputs None = evaluable_by t inputs ≡ false
 abbrev pub OffsetsBelow : ℕ → List Corner → Type 0
 OffsetsBelow n cs = AllByRecursion (λ c. c.offset < n) cs
 
--- what a sum over corners answers, for a function with that index
-abbrev pub Summed : ℕ → Result (List Float) ℕ → Result (ArrayVec Float) Fault → Type 0
-Summed index sums (Ok new) = sums ≡ Ok new.items
-Summed index sums (Err e) = (sums ≡ Err e.place) × (e ≡ no_sample index e.place)
+-- what a sum over corners answers, for a function with that index, and what the list of sums holds after
+abbrev pub Summed : ℕ → Result (List Float) ℕ → List Float → Result (Unit {0}) Fault → Type 0
+Summed index sums new (Ok _) = sums ≡ Ok new
+Summed index sums new (Err e) = (sums ≡ Err e.place) × (e ≡ no_sample index e.place)

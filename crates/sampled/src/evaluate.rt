@@ -8,7 +8,7 @@ ghost use Rattle.sampled.specs.Sampled.{shape_fits, sizes_in, OwnSizes, loaded_a
 
 use crate::grid::Grid;
 use crate::sizes::{cut_sizes, sizes_fit};
-use crate::sums::{Source, put_decoded};
+use crate::sums::{Source, put_decoded, zeros};
 use crate::type0::{MAX_INPUTS, Type0};
 use fault::{Cause, Fault};
 use function::{Counts, MAX_OUTPUTS, clamp_front};
@@ -63,7 +63,8 @@ impl Type0<'_> {
             index,
         };
         let corners = grid.corners(inputs);
-        let sums = source.add_corners(&corners, grid.outputs)?;
+        let mut sums = zeros(grid.outputs);
+        source.add_corners(&corners, &mut sums)?;
         put_decoded(source.largest(), self.decode, &sums, outputs);
         clamp_front(self.range, sums.len(), outputs);
         Ok(Counts {

@@ -10,7 +10,7 @@ use crate::type0::Corner;
 use arrayvec::ArrayVec;
 use fault::{Cause, Fault};
 use function::MAX_OUTPUTS;
-use numeric::{Whole, interpolate, pair_at};
+use numeric::{Whole, interpolate};
 use units::Samples;
 
 // Where the samples of a function come from: a unit, a table in it, and the function's own index.
@@ -33,42 +33,32 @@ impl<S: Samples> Source<'_, S> {
         }
     }
 
-    // The sums, with weight * sample added to each: a new list, so that the contract speaks of none half added to.
-    // A loop of pushes, since a sample may be missing.
-    fn add_corner(
-        &self,
-        corner: Corner,
-        sums: &ArrayVec<f32, MAX_OUTPUTS>,
-    ) -> Result<ArrayVec<f32, MAX_OUTPUTS>, Fault>
-        requires { corner.offset + length sums.now.items < 2 ^ 64 }
-        ensures { Summed self.now.index (add_corner (S.tables self.now.samples.now) self.now.table corner.weight corner.offset sums.now.items) result }
+    // Adds weight * sample to each sum, in place: a list of its own for each corner costs time. Where a sample is missing,
+    // those before it have been added, and the contract says nothing of the sums.
+    fn add_corner(&self, corner: Corner, sums: &mut [f32]) -> Result<(), Fault>
+        requires { corner.offset + length sums.old < 2 ^ 64 }
+        ensures { Summed self.now.index (add_corner (S.tables self.now.samples.now) self.now.table corner.weight corner.offset sums.old) sums.new result }
     {
-        let mut added = ArrayVec::new();
-        for (i, sum) in sums.iter().enumerate() {
+        for (i, sum) in sums.iter_mut().enumerate() {
             let place = corner.offset + i;
             let sample = self
                 .samples
                 .sample(self.table, place)
                 .ok_or(self.missing(place))?;
-            added.push(*sum + corner.weight * sample.nearest());
+            *sum = *sum + corner.weight * sample.nearest();
         }
-        Ok(added)
+        Ok(())
     }
 
-    // The sums over the corners, for so many outputs: a number, whose bound no type carries.
-    pub(crate) fn add_corners(
-        &self,
-        corners: &Corners,
-        outputs: usize,
-    ) -> Result<ArrayVec<f32, MAX_OUTPUTS>, Fault>
-        requires { outputs ≤ 32 }
-        ensures { Summed self.now.index (add_corners (S.tables self.now.samples.now) self.now.table corners.now.list.items (replicate outputs zero)) result }
+    // The same for each corner in turn.
+    pub(crate) fn add_corners(&self, corners: &Corners, sums: &mut [f32]) -> Result<(), Fault>
+        requires { length sums.old ≤ 32 }
+        ensures { Summed self.now.index (add_corners (S.tables self.now.samples.now) self.now.table corners.now.list.items sums.old) sums.new result }
     {
-        let mut sums = zeros(outputs);
         for corner in corners.list.iter() {
-            sums = self.add_corner(*corner, &sums)?;
+            self.add_corner(*corner, sums)?;
         }
-        Ok(sums)
+        Ok(())
     }
 
     // The largest sample, 0 where there is no table: no sum comes to be decoded by that.
@@ -82,7 +72,7 @@ impl<S: Samples> Source<'_, S> {
 }
 
 // The sums before any corner; the count is a number, whose bound no type carries.
-fn zeros(count: usize) -> ArrayVec<f32, MAX_OUTPUTS>
+pub(crate) fn zeros(count: usize) -> ArrayVec<f32, MAX_OUTPUTS>
     requires { count ≤ 32 }
     ensures { result.items ≡ replicate count zero }
 {
@@ -95,9 +85,13 @@ fn zeros(count: usize) -> ArrayVec<f32, MAX_OUTPUTS>
 pub(crate) fn put_decoded(top: f32, decode: &[f32], sums: &[f32], outputs: &mut [f32])
     ensures { outputs.new ≡ over (decoded top (pairs_of decode.now) sums.now) outputs.old }
 {
-    for (i, output) in outputs.iter_mut().enumerate() {
-        if let (Some(sum), Some(pair)) = (sums.get(i), pair_at(decode, i)) {
-            *output = interpolate(*sum, (0.0, top), pair);
-        }
+    // No further than the sums go, however long the list is.
+    let (pairs, _) = decode.as_chunks::<2>();
+    let end = sums.len().min(pairs.len()).min(outputs.len());
+    let front = &mut outputs[..end];
+    // The sums and the pairs by index: what is written through a zipped iter_mut is lost to the proof.
+    for (i, output) in front.iter_mut().enumerate() {
+        let [first, second] = pairs[i];
+        *output = interpolate(sums[i], (0.0, top), (first, second));
     }
 }
