@@ -1,5 +1,5 @@
 -- A list of which the front is used, with more written behind it. Assumes nothing.
-use Rattle.std.proofs.Common.{◌≡◌, ℕ, ◌+◌, ◌<◌, List, [], ◌∷◌, ◌++◌, length, take, drop, slice_set, sym, refl, ap, ◌∙◌, append_assoc, length-append, arith}
+use Rattle.std.proofs.Common.{◌≡◌, ℕ, ◌+◌, ◌<◌, ◌≤◌, List, [], ◌∷◌, ◌++◌, length, take, drop, slice_set, sym, refl, ap, ◌∙◌, append_assoc, length-append, length-drop, arith}
 use Rattle.std.proofs.Math.Seq.{set-append_seam}
 use Rattle.std.proofs.lemmas.List.{drop-drop, take_at, drop_at, map-id}
 use Rattle.std.proofs.lemmas.List.Concat.{flat_map_single}
@@ -23,6 +23,13 @@ module _ {A : Type 0} where
       let front : take n (whole f) ≡ f.front = take_at f.front f.rest n refl in
       let rest : drop (n + length xs) (whole f) ≡ drop (length xs) f.rest = sym (drop-drop (length xs) n (whole f)) ∙ ap (drop (length xs)) (drop_at f.front f.rest n refl) in
       append_assoc f.front xs (drop (length xs) f.rest) ∙ sym (λ j. front j ++ (xs ++ rest j))
+
+  -- what has room leaves the list as long as it was
+  pub length-appended : (f : Fill A) (xs : List A) → length xs ≤ length f.rest → length (whole (appended f xs)) ≡ length (whole f)
+  length-appended f xs h =
+      let used = length-append f.front xs in
+      let free = length-drop (length xs) f.rest in
+      omega (arith, length-append (f.front ++ xs) (drop (length xs) f.rest), length-append f.front f.rest)
 
   first_set : (front rest : List A) (x : A) → 0 < length rest → (front ++ (x ∷ [])) ++ drop 1 rest ≡ slice_set (front ++ rest) (length front) x
   first_set front [] x h = absurd (omega arith)

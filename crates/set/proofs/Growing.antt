@@ -81,7 +81,7 @@ fresh xs f =
 
 -- ---- the records stay in order
 
-record_end : (xs : List Float) (f : Function) → (record_of (length xs) f).end ≡ length (xs ++ numbers_of f)
+pub record_end : (xs : List Float) (f : Function) → (record_of (length xs) f).end ≡ length (xs ++ numbers_of f)
 record_end xs f =
     let a = length-append (flat f.domain) (flat f.range ++ body_numbers f.body) in
     let b = length-append (flat f.range) (body_numbers f.body) in

@@ -10,7 +10,7 @@ use Rattle.fault.proofs.Passing.{none_passes, passes_none, passes_append, fault_
 use Rattle.fault.specs.Checks.{Check, first_fault, passes, fault}
 use Rattle.fault.specs.declared.cause.Cause.TheVariants.{UnitShape, UnitStretch}
 use Rattle.fault.specs.declared.cause.Fault.{Fault}
-use Rattle.units.specs.Directory.{for_each, width_checks, fit_checks, directory_checks}
+use Rattle.units.specs.Directory.{for_each, is_width, width_checks, fit_checks, directory_checks}
 use Rattle.units.specs.Samples.{Table, most_tables}
 use Rattle.units.specs.declared.directory.Stretch.{Stretch}
 
@@ -97,6 +97,9 @@ module _ (f : ℕ → Stretch → List Check) where
   own_pass ss i s p e =
       let number : 0 + i ≡ i = omega arith in
       subst (λ (n : ℕ). passes (f n s) ≡ true) number (each_passes f 0 i ss s (passes_back (for_each width_checks 0 ss) (for_each f 0 ss) (after_count ss p)) e)
+
+  pub own_width : (ss : List Stretch) (i : ℕ) (s : Stretch) → passes (directory_checks f ss) ≡ true → slice_get ss i ≡ Some s → is_width s.width ≡ true
+  own_width ss i s p e = (and_parts (is_width s.width) true (each_passes width_checks 0 i ss s (passes_front (for_each width_checks 0 ss) (for_each f 0 ss) (after_count ss p)) e)).0
 
 -- ---- a unit, or one without tables
 

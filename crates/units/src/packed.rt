@@ -31,6 +31,8 @@ impl Entry for u8 {
             .saturating_add(length % bits * 8 / bits)
     }
 
+    // Inlined for the same loop, which then knows the width.
+    #[inline(always)]
     fn sample(bytes: &[u8], width: Width, index: usize) -> Option<u32> {
         match width {
             Width::One => sample_in_byte(bytes, 1, index),

@@ -68,7 +68,8 @@ impl<'a, E: Entry> SampleUnit<'a, E> {
         })
     }
 
-    // The entries of the table and its width, if there is one.
+    // The entries of the table and its width, if there is one. Inlined, as sample is: a loop over one table then finds both once.
+    #[inline(always)]
     fn table_at(&self, table: usize) -> Option<(&'a [E], Width)>
         ensures { MatchOption result (None ≡ slice_get (tables_of E.samples self.now.entries.now self.now.directory.now) table) (λ t. Some (record { width = t.1; samples = E.samples t.1 t.0.now }) ≡ slice_get (tables_of E.samples self.now.entries.now self.now.directory.now) table) }
     {
@@ -92,6 +93,7 @@ impl<E: Entry> Samples for SampleUnit<'_, E> {
         Some(E::count(entries, width))
     }
 
+    #[inline(always)]
     fn sample(&self, table: usize, index: usize) -> Option<u32> {
         let (entries, width) = self.table_at(table)?;
         E::sample(entries, width, index)

@@ -1,16 +1,14 @@
-use Rattle.std.proofs.Common.{[], arith, Err, sym, refl, ap, ◌∙◌}
+use Rattle.std.proofs.Common.{arith, Err, sym, refl, ap, ◌∙◌}
 use Rattle.std.proofs.lemmas.Grind.{common_steps}
 use Rattle.std.proofs.lemmas.Result.{err_from_is_err_and}
 use Rattle.fault.specs.Checks.{fault}
 use Rattle.fault.specs.declared.cause.Cause.TheVariants.{Room}
 use Rattle.fault.specs.declared.cause.Fault.{Fault}
-use Rattle.fault.proofs.Passing.{none_passes}
 use Rattle.set.specs.State.{model_of}
-use Rattle.set.specs.Steps.{function_checks}
 use Rattle.set.proofs.Filling.{whole-appended, whole-appended_one}
-use Rattle.set.proofs.Growing.{functions_grown, placed_grown, grown_model}
-use Rattle.set.proofs.Loading.{refused, load_step-full, load_step-granted}
-use Rattle.set.proofs.Reading.{functions_of, length-functions_of, admitted_more}
+use Rattle.set.proofs.Growing.{grown_model}
+use Rattle.set.proofs.Loading.{refused, granted, load_step-full, load_step-granted, still}
+use Rattle.set.proofs.Reading.{length-functions_of}
 use Rattle.set.proofs.set.Set.load.Goals as goal
 
 pub returns-in_err-demand : goal.returns-in_err-demand
@@ -27,10 +25,9 @@ invariant_of-self g c =
     let s = c.args.self.now in
     let f = g.G.Lay.function c.args.given.now in
     let e = c.lay-record.ensures in
-    rw (c.push.ensures, e.numbers, e.record) (record {
-      inside = placed_grown s.records.front s.numbers.front f s.inside;
-      lawful = rw (functions_grown s.records.front s.numbers.front f s.inside) (admitted_more [] (functions_of s) f s.lawful (none_passes (function_checks (functions_of s) f) c.requires.checked));
-    })
+    let fine = granted (model_of s) f c.requires.checked _ _ c.requires.needed c.free.ensures (sym c.fit_in.ensures ∙ c.in_ok-demand.ensures) in
+    let p = still s f fine _ _ s.instructions _ e.record c.push.ensures e.numbers refl in
+    record { inside = p.2; lawful = p.3 }
 
 pub returns-clause-after : goal.returns-clause-after
 returns-clause-after g c =
